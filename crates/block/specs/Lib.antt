@@ -1,0 +1,4 @@
+pub mod Bits
+pub mod Arith
+pub mod Width
+pub mod Blocks
