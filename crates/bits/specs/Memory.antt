@@ -1,0 +1,22 @@
+-- Bits that stand in a memory of bytes, the highest bit of a byte first. Assumes nothing.
+use Prim.Native.Nat.{ℕ, _-_, _*_}
+use mathlib.Core.Bool.{Bool}
+use mathlib.Core.List.{List}
+use lib.ListN.{take, drop}
+use Rattle.block.specs.Bits.{bitsOf}
+use Rattle.block.specs.Arith.{Arith, fromBytes}
+use Rattle.bits.specs.Blocks.{last, padded, whole}
+use Rattle.bits.specs.declared.Last.{Last}
+
+-- the first b bits of a memory
+abbrev pub standing : ℕ → List ℕ → List Bool
+standing b memory = take b (bitsOf memory)
+
+module _ {B : Type 0} (A : Arith B) where
+  -- block i as the memory holds it: its n / 8 bytes begin at byte (i - 1) * n / 8
+  unfoldable pub held : List ℕ → ℕ → B
+  held memory i = fromBytes A (take (A .size) (drop ((i - 1) * A .size) memory))
+
+  -- the last block of some bits, padded where it is short, and whether it is whole
+  abbrev pub closing : List Bool → Last B
+  closing bs = record { block = A .pack (padded A (last A bs)); whole = whole A (last A bs) }
