@@ -89,3 +89,11 @@ module _ {B : Type 0} {A : Arith B} (w : Laws A) where
 
   pub block-ceil : (pos a : ℕ) → pos / width A ≤ (pos + a + (width A - 1)) / width A
   block-ceil pos a = le-div (pos / width A) (pos + a + (width A - 1)) (width A) wide (omega (arith, div-mul-le-self pos (width A)))
+
+  -- the largest memory has few blocks
+  pub blocks-few : (b : ℕ) → b ≤ 524288 → blocks A b ≤ 65536
+  unfolding blocks
+  blocks-few b h =
+      let some = w .some in
+      let few = div-below (b + (width A - 1)) (width A) 65537 wide (omega arith) in
+      omega arith

@@ -1,8 +1,9 @@
 -- Bits that stand in a memory of bytes, the highest bit of a byte first. Assumes nothing.
 use Prim.Native.Nat.{ℕ, _-_, _*_}
-use mathlib.Core.Bool.{Bool}
+use mathlib.Core.Bool.{Bool, true, cond}
 use mathlib.Core.List.{List}
-use lib.ListN.{take, drop}
+use lib.Dec.{ltb}
+use lib.ListN.{length, take, drop}
 use Rattle.block.specs.Bits.{bitsOf}
 use Rattle.block.specs.Arith.{Arith, fromBytes}
 use Rattle.bits.specs.Blocks.{last, padded, whole}
@@ -11,6 +12,10 @@ use Rattle.bits.specs.declared.Last.{Last}
 -- the first b bits of a memory
 abbrev pub standing : ℕ → List ℕ → List Bool
 standing b memory = take b (bitsOf memory)
+
+-- a memory that is too large, or too small for b bits
+abbrev pub unfit : List ℕ → ℕ → Bool
+unfit memory b = cond (ltb 65536 (length memory)) true (ltb (8 * length memory) b)
 
 module _ {B : Type 0} (A : Arith B) where
   -- block i as the memory holds it: its n / 8 bytes begin at byte (i - 1) * n / 8

@@ -1,12 +1,12 @@
 // Bits in a memory of bytes, read in blocks: position 0 first, the highest bit of a byte first.
 ghost use mathlib.Core.Path.{_≡_};
-ghost use mathlib.Core.Bool.{true, false};
+ghost use mathlib.Core.Bool.{true, false, not};
 ghost use mathlib.Core.List.{_∷_, _++_};
 ghost use Prim.Native.Nat.{ℕ, _+_, _-_, _*_, _<_, _≤_};
 ghost use lib.ListN.{length, take, replicate};
 ghost use Rattle.block.specs.Bits.{bits as bitsIn, bitsOf};
 ghost use Rattle.bits.specs.Blocks.{blocks, padded};
-ghost use Rattle.bits.specs.Memory.{standing, held, closing};
+ghost use Rattle.bits.specs.Memory.{standing, unfit, held, closing};
 use block::Block;
 
 // The last block of some bits, padded where it is short.
@@ -14,6 +14,16 @@ use block::Block;
 pub struct Last<B> {
     pub block: B,
     pub whole: bool,
+}
+
+// The largest memory, in bytes.
+pub const MEMORY_BYTES: usize = 65_536;
+
+// Whether the memory is no larger than allowed, and holds `bits` bits.
+pub fn fits(memory: &[u8], bits: usize) -> bool
+    ensures { λ r. ⌜ r ≡ not (unfit (now (memory .entry)) bits) ⌝ }
+{
+    memory.len() <= MEMORY_BYTES && bits <= 8 * memory.len()
 }
 
 // How many blocks `bits` bits have: at least one.

@@ -21,6 +21,10 @@ pub record Undoes {B : Type 0} (m : Meaning B) : Type 0 where
 abbrev pub answered : {Y : Type 0} → ℕ → Y → Result Y EngineFault
 answered left y = cond (ltb 0 left) (Ok y) (Err (Spent 1 0))
 
+-- whether an allowance covers what is due
+abbrev pub afforded : ℕ → ℕ → Result (Unit {0}) EngineFault
+afforded left due = cond (ltb left due) (Err (Spent due left)) (Ok tt)
+
 -- after n operations: the maps stay
 abbrev pub spent : {B : Type 0} → ℕ → Meaning B → Meaning B
 spent n m = record { enc = m .enc; dec = m .dec; left = m .left - n }

@@ -6,7 +6,7 @@ mod refusal;
 
 ghost use mathlib.Core.Path.{_≡_};
 ghost use Prim.Native.Nat.{_<_, _^_};
-ghost use Rattle.engine.specs.Meaning.{Meaning, Undoes, answered, spent};
+ghost use Rattle.engine.specs.Meaning.{Meaning, Undoes, answered, afforded, spent};
 pub use allowance::Allowance;
 use block::Block;
 pub use complement::Complement;
@@ -39,4 +39,15 @@ pub trait Engine {
         ensures answer { λ r. ⌜ r ≡ answered (means (now (self .entry)) .left) (means (now (self .entry)) .dec block) ⌝ }
         ensures after { λ _. ⌜ means (now (self .exit)) ≡ spent 1 (means (now (self .entry))) ⌝ }
         ensures unaltered { λ _. ⌜ (means (now (self .entry)) .left ≡ 0 → now (self .exit) ≡ now (self .entry)) ⌝ };
+}
+
+// Whether `due` operations are left; asks the engine for none.
+pub fn afford<E: Engine>(engine: &E, due: u32) -> Result<(), EngineFault>
+    ensures { λ r. ⌜ r ≡ afforded (E·Engine .means (now (engine .entry)) .left) due ⌝ }
+{
+    let left = engine.left();
+    if left < due {
+        return Err(EngineFault::Spent { due, left });
+    }
+    Ok(())
 }

@@ -1,0 +1,6 @@
+pub mod Over
+pub mod Gray
+pub mod Sums
+pub mod Endings
+pub mod Spending
+pub mod Sealing

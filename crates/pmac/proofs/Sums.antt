@@ -1,0 +1,42 @@
+-- The sum over the blocks of a memory. Assumes nothing.
+use mathlib.Core.Path.{_≡_, ap, _∙_}
+use mathlib.Core.Bool.{Bool}
+use mathlib.Core.List.{List}
+use Prim.Native.Nat.{ℕ, _-_, _*_, _≤_, _<_}
+use native.Mathlib.Nat.{mul-le-mul-right}
+use native.Mathlib.Omega.{arith}
+use lib.ListN.{length, take}
+use Rattle.std.proofs.shelf.Lists.{length-take-le}
+use Rattle.block.specs.Bits.{bitsOf}
+use Rattle.block.specs.Arith.{Arith, Laws}
+use Rattle.block.proofs.Bits.{length-bitsOf}
+use Rattle.bits.specs.Blocks.{blocks}
+use Rattle.bits.specs.Memory.{standing}
+use Rattle.bits.proofs.Counts.{blocks-some, blocks-inner, blocks-before}
+use Rattle.bits.proofs.Parts.{part-take}
+use Rattle.bits.proofs.Memory.{part-held, held-inside}
+use Rattle.pmac.specs.Pmac.{over, offset, sealed, sum}
+use Rattle.pmac.specs.Stored.{stored, Sums}
+use Rattle.pmac.proofs.Over.{over-same}
+
+module _ {B : Type 0} {A : Arith B} (w : Laws A) where
+  -- the sum of a front is over the same blocks
+  pub sum-take : (enc : B → B) (l : B) (bs : List Bool) (c : ℕ) → c ≤ length bs → sum A enc l (take c bs) ≡ over A (sealed A enc l bs) 1 (blocks A c - 1)
+  unfolding sum sealed
+  sum-take enc l bs c h =
+      ap (λ z. over A (sealed A enc l (take c bs)) 1 (blocks A z - 1)) (length-take-le c bs h)
+      ∙ over-same A (sealed A enc l (take c bs)) (sealed A enc l bs) 1 (blocks A c - 1)
+      (λ i p q. let inner = blocks-inner w c i p (omega (arith, blocks-some w c)) in
+      ap (λ z. enc (A .plus (A .pack z) (offset A l i))) (part-take A i c bs p (omega arith)))
+
+  pub sums : Sums A
+  unfolding sealed stored
+  sums enc l memory b h =
+      let long = length-bitsOf memory in
+      sum-take enc l (bitsOf memory) b (omega arith)
+      ∙ over-same A (sealed A enc l (bitsOf memory)) (stored A enc l memory) 1 (blocks A b - 1)
+      (λ i p q. ap (λ z. enc (A .plus z (offset A l i))) (part-held A memory i p (held-inside w memory b i h p (omega (arith, blocks-some w b)))))
+
+  -- the blocks before the last lie in the memory
+  pub in-memory : (memory : List ℕ) (b c : ℕ) → b ≤ 8 * length memory → c ≤ blocks A b → (c - 1) * A .size ≤ length memory
+  in-memory memory b c h k = let le : c - 1 ≤ blocks A b - 1 = omega arith in omega (arith, mul-le-mul-right (A .size) le, blocks-before w b)

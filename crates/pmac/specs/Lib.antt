@@ -1,0 +1,4 @@
+pub mod Pmac
+pub mod Stored
+pub mod Sealing
+pub mod Cases
