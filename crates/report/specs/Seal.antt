@@ -1,0 +1,29 @@
+-- The text that sealing one overlay prints. Assumes nothing.
+use Prim.Native.Nat.{ℕ, _*_}
+use mathlib.Core.List.{List, _++_}
+use lib.Chars.{codes}
+use lib.ListN.{length}
+use Rattle.std.specs.Written.{decimal}
+use Rattle.block.specs.Arith.{Arith, toBytes}
+use Rattle.bits.specs.Blocks.{blocks}
+use Rattle.engine.specs.Meaning.{Meaning}
+use Rattle.pmac.specs.Sealing.{Outcome, worked, refused, fullTag}
+use Rattle.report.specs.Hex.{hexOf}
+
+-- one line: bits, blocks, operations and the full tag in hex, or the refusal's number
+abbrev pub tagLine : ℕ → ℕ → ℕ → List ℕ → List ℕ
+tagLine bits blocks operations tag = decimal bits ++ (codes " " ++ (decimal blocks ++ (codes " " ++ (decimal operations ++ (codes " " ++ tag)))))
+
+abbrev pub refusalLine : ℕ → List ℕ
+refusalLine number = codes "refusal " ++ decimal number
+
+abbrev pub sealLine : {B : Type 0} → Arith B → ℕ → Outcome B → List ℕ
+sealLine A b (worked tag n) = tagLine b (blocks A b) n (hexOf (toBytes A tag))
+sealLine A b (refused r) = refusalLine (r .number)
+
+abbrev pub underHeader : List ℕ → List ℕ
+underHeader line = codes "bits blocks operations tag\n" ++ (line ++ codes "\n")
+
+-- of a whole message
+abbrev pub sealOf : {B : Type 0} → Arith B → Meaning B → List ℕ → List ℕ
+sealOf A m message = sealLine A (8 * length message) (fullTag A m message (8 * length message))
