@@ -36,15 +36,15 @@ word bytes i = ((getD bytes i 0 * 256 + getD bytes (i + 1) 0) * 256 + getD bytes
 abbrev pub words : List ℕ → List ℕ
 words bytes = word bytes 0 ∷ word bytes 4 ∷ word bytes 8 ∷ word bytes 12 ∷ []
 
--- what the engine of key words means
+-- both ways under the words of a key
 abbrev pub keyed : List ℕ → ℕ → Meaning Block64
 keyed key left = record { enc = enciphered64 key; dec = deciphered64 key; left = left }
 
--- XTEA under a key of 16 bytes
+-- XTEA under a key's bytes, with `left` operations left
 abbrev pub xtea : List ℕ → ℕ → Meaning Block64
 xtea bytes left = keyed (words bytes) left
 
--- what making an engine gives: that meaning, or refused
+-- what comes of a key: XTEA where it has 16 bytes, else a refusal
 abbrev pub made : List ℕ → ℕ → Result (Meaning Block64) KeyFault
 made bytes left = cond (eqb (length bytes) 16) (Ok (xtea bytes left)) (Err Length)
 
@@ -52,6 +52,7 @@ made bytes left = cond (eqb (length bytes) 16) (Ok (xtea bytes left)) (Err Lengt
 abbrev pub meant : Xtea → Meaning Block64
 meant e = keyed (e .key) (e .allowance .left)
 
+-- what making an engine gave: the engine by what it means, or the refusal
 abbrev pub seen : Result Xtea KeyFault → Result (Meaning Block64) KeyFault
 seen (Ok e) = Ok (meant e)
 seen (Err fault) = Err fault

@@ -1,8 +1,8 @@
-// The cycles of XTEA on two words.
+// XTEA on two words, over any number of cycles.
 ghost use mathlib.Core.Path.{_≡_};
-ghost use Prim.Native.Nat.{ℕ};
 ghost use Rattle.xtea.specs.Cycles.{mixed, onFirst, onSecond, enciphered, deciphered, Undone};
 
+// What each cycle adds to the sum s.
 const DELTA: u32 = 0x9E37_79B9;
 
 fn mix(z: u32) -> u32
@@ -11,14 +11,14 @@ fn mix(z: u32) -> u32
     ((z << 4) ^ (z >> 5)).wrapping_add(z)
 }
 
-// What a cycle adds to the first word.
+// What a cycle adds to the first word, from the second.
 fn on_first(key: &[u32; 4], s: u32, w: u32) -> u32
     ensures { λ r. ⌜ r ≡ onFirst (now (key .entry)) s w ⌝ }
 {
     mix(w) ^ s.wrapping_add(key[(s % 4) as usize])
 }
 
-// What a cycle adds to the second word.
+// What a cycle adds to the second word, from the first.
 fn on_second(key: &[u32; 4], s: u32, v: u32) -> u32
     ensures { λ r. ⌜ r ≡ onSecond (now (key .entry)) s v ⌝ }
 {
