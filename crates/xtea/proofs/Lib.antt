@@ -1,0 +1,3 @@
+pub mod Undo
+pub mod Turns
+pub mod Blocks
