@@ -1,10 +1,14 @@
--- Hex of one byte more. Assumes nothing.
+-- Hex of one byte more; the front and the rest of an input. Assumes nothing.
 use mathlib.Core.Path.{_≡_, refl, sym, ap, _∙_}
 use mathlib.Core.List.{List, [], _∷_, _++_, append-assoc}
-use Prim.Native.Nat.{ℕ, _+_, _/_, _%_, _<_}
+use mathlib.Core.Logic.{_⊎_, inl, inr}
+use Prim.Native.Nat.{ℕ, min, _+_, _/_, _%_, _<_, _≤_}
 use native.Mathlib.Numerals.{add-one}
-use lib.ListN.{length, take, getD}
+use native.Mathlib.Omega.{arith}
+use lib.ListN.{length, take, drop, getD}
 use lib.Seq.{take-suc}
+use Rattle.std.proofs.shelf.Lists.{take-all, drop-all}
+use Rattle.std.proofs.shelf.Tests.{cases-lt}
 use Rattle.report.specs.Hex.{hexDigit, hexOf}
 
 hex-append : (xs ys : List ℕ) → hexOf (xs ++ ys) ≡ hexOf xs ++ hexOf ys
@@ -25,3 +29,18 @@ pub pushed : (xs : List ℕ) (i : ℕ) → i < length xs → (was mid now p q : 
     → was ≡ hexOf (take i xs) → c ≡ hexDigit (getD xs i 0 / 16) → d ≡ hexDigit (getD xs i 0 % 16)
     → p ≡ c ∷ [] → q ≡ d ∷ [] → mid ≡ was ++ p → now ≡ mid ++ q → now ≡ hexOf (take (i + 1) xs)
 pushed xs i h was mid now p q c d e ec ed ep eq em en = let more = hex-more xs i h in cc
+
+-- as much as there is
+pub take-up-to : (xs : List ℕ) (k : ℕ) → take (min (length xs) k) xs ≡ take k xs
+take-up-to xs k = by (cases-lt (length xs) k)
+  where
+    by : (length xs < k) ⊎ (k ≤ length xs) → take (min (length xs) k) xs ≡ take k xs
+    by (inl h) = let e : min (length xs) k ≡ length xs = omega arith in ap (λ n. take n xs) e ∙ take-all (length xs) xs (omega arith) ∙ sym (take-all k xs (omega arith))
+    by (inr h) = let e : min (length xs) k ≡ k = omega arith in ap (λ n. take n xs) e
+
+pub drop-up-to : (xs : List ℕ) (k : ℕ) → drop (min (length xs) k) xs ≡ drop k xs
+drop-up-to xs k = by (cases-lt (length xs) k)
+  where
+    by : (length xs < k) ⊎ (k ≤ length xs) → drop (min (length xs) k) xs ≡ drop k xs
+    by (inl h) = let e : min (length xs) k ≡ length xs = omega arith in ap (λ n. drop n xs) e ∙ drop-all (length xs) xs (omega arith) ∙ sym (drop-all k xs (omega arith))
+    by (inr h) = let e : min (length xs) k ≡ k = omega arith in ap (λ n. drop n xs) e

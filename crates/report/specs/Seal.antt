@@ -2,12 +2,17 @@
 use Prim.Native.Nat.{ℕ, _*_}
 use mathlib.Core.List.{List, _++_}
 use lib.Chars.{codes}
-use lib.ListN.{length}
+use lib.ListN.{length, take, drop}
+use Rattle.std.specs.declared.result.Result.{Result}
+use Rattle.std.specs.declared.result.Result.the-variants.{Ok, Err}
 use Rattle.std.specs.Written.{decimal}
 use Rattle.block.specs.Arith.{Arith, toBytes}
+use Rattle.block.specs.Blocks.{arith64}
 use Rattle.bits.specs.Blocks.{blocks}
 use Rattle.engine.specs.Meaning.{Meaning}
+use Rattle.engine.specs.Refusals.{Refusal}
 use Rattle.pmac.specs.Sealing.{Outcome, worked, refused, fullTag}
+use Rattle.xtea.specs.Xtea.{made}
 use Rattle.report.specs.Hex.{hexOf}
 
 -- one line: bits, blocks, operations and the full tag in hex, or the refusal's number
@@ -24,6 +29,15 @@ sealLine A b (refused r) = refusalLine (r .number)
 abbrev pub underHeader : List ℕ → List ℕ
 underHeader line = codes "bits blocks operations tag\n" ++ (line ++ codes "\n")
 
--- of a whole message
+-- a message sealed by an engine that means m
 abbrev pub sealOf : {B : Type 0} → Arith B → Meaning B → List ℕ → List ℕ
 sealOf A m message = sealLine A (8 * length message) (fullTag A m message (8 * length message))
+
+-- a message sealed under what came of a key
+abbrev pub sealUnder : {B : Type 0} → Arith B → Result (Meaning B) Refusal → List ℕ → List ℕ
+sealUnder A (Ok m) message = sealOf A m message
+sealUnder A (Err r) message = refusalLine (r .number)
+
+-- all that is printed of an input: a key of 16 bytes, and the message behind it
+abbrev pub sealText : List ℕ → List ℕ
+sealText input = underHeader (sealUnder arith64 (made (take 16 input) 1000000) (drop 16 input))

@@ -5,5 +5,4 @@ mod seal;
 pub use digits::hex;
 pub use seal::SealLine;
 pub use seal::SealLineDisplay;
-pub use seal::seal_line;
-pub use seal::under_header;
+pub use seal::seal_text;

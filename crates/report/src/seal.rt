@@ -11,8 +11,10 @@ ghost use Rattle.block.specs.Arith.{toBytes};
 ghost use Rattle.pmac.specs.Sealing.{outcome, fullTag, operations};
 ghost use Rattle.engine.specs.Meaning.{spent};
 ghost use Rattle.report.specs.Hex.{hexOf};
-ghost use Rattle.report.specs.Seal.{sealLine, sealOf, underHeader};
+ghost use Rattle.report.specs.Seal.{sealOf, sealUnder, sealText, underHeader};
 ghost use Rattle.report.specs.Shown.{lineBytes};
+ghost use Rattle.block.specs.Blocks.{arith64};
+ghost use Rattle.xtea.specs.Xtea.{made as engineOf};
 use crate::hex;
 use block::Block;
 use engine::Engine;
@@ -21,6 +23,13 @@ use pmac::TagFault;
 use std::alloc::AllocError;
 use std::alloc::Global;
 use std::fmt;
+use xtea::Xtea;
+use xtea::XteaEngine;
+
+const KEY_BYTES: usize = 16;
+
+// The operations that a program's engine is made with.
+const ALLOWANCE: u32 = 1_000_000;
 
 // What sealing an overlay came to.
 #[derive(Drop)]
@@ -53,7 +62,7 @@ pub impl fmt::Display for SealLine as SealLineDisplay {
 }
 
 // The line for a whole message under an engine.
-pub fn seal_line<E: Engine>(
+fn seal_line<E: Engine>(
     heap: Global,
     engine: &mut E,
     message: &[u8],
@@ -78,11 +87,32 @@ pub fn seal_line<E: Engine>(
     }
 }
 
-// The whole text: the header, and the line under it.
-pub fn under_header(heap: Global, line: &SealLine) -> Result<String, AllocError>
+// The whole text for an input: a key of 16 bytes, and the message behind it.
+pub fn seal_text(heap: Global, input: &[u8]) -> Result<String, AllocError>
+    ensures { λ r. ⌜ made r (λ s. string-bytes s ≡ sealText (now (input .entry))) ⌝ }
+{
+    let (key, message) = input.split_at(input.len().min(KEY_BYTES));
+    let line = line_under(heap, key, message)?;
+    under_header(heap, &line)
+}
+
+// The header, and the line under it.
+fn under_header(heap: Global, line: &SealLine) -> Result<String, AllocError>
     ensures { λ r. ⌜ made r (λ s. string-bytes s ≡ underHeader (lineBytes (now (line .entry)))) ⌝ }
 {
     format!(heap, "bits blocks operations tag\n{line}\n")
+}
+
+// The line for a message under a key.
+fn line_under(heap: Global, key: &[u8], message: &[u8]) -> Result<SealLine, AllocError>
+    ensures { λ r. ⌜ made r (λ line. lineBytes line ≡ sealUnder arith64 (engineOf (now (key .entry)) 1000000) (now (message .entry))) ⌝ }
+{
+    match Xtea::new(key, ALLOWANCE) {
+        Ok(mut engine) => seal_line(heap, &mut engine, message),
+        Err(fault) => Ok(SealLine::Refusal {
+            number: fault.number(),
+        }),
+    }
 }
 
 // The full tag of all of a message.

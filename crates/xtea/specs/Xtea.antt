@@ -10,8 +10,8 @@ use Rattle.std.specs.declared.result.Result.the-variants.{Ok, Err}
 use Rattle.block.specs.Blocks.{make64}
 use Rattle.block.specs.declared.block64.Block64.{Block64}
 use Rattle.engine.specs.Meaning.{Meaning}
+use Rattle.engine.specs.Refusals.{Refusal, keyRefusal}
 use Rattle.engine.specs.declared.fault.KeyFault.{KeyFault}
-use Rattle.engine.specs.declared.fault.KeyFault.the-variants.{Length}
 use Rattle.xtea.specs.declared.Xtea.{Xtea}
 use Rattle.xtea.specs.Cycles.{Words, enciphered, deciphered}
 
@@ -44,18 +44,18 @@ keyed key left = record { enc = enciphered64 key; dec = deciphered64 key; left =
 abbrev pub xtea : List ℕ → ℕ → Meaning Block64
 xtea bytes left = keyed (words bytes) left
 
--- what comes of a key: XTEA where it has 16 bytes, else a refusal
-abbrev pub made : List ℕ → ℕ → Result (Meaning Block64) KeyFault
-made bytes left = cond (eqb (length bytes) 16) (Ok (xtea bytes left)) (Err Length)
+-- what comes of a key: XTEA where it has 16 bytes, else refusal 1
+abbrev pub made : List ℕ → ℕ → Result (Meaning Block64) Refusal
+made bytes left = cond (eqb (length bytes) 16) (Ok (xtea bytes left)) (Err (record { number = 1; told = [] }))
 
 -- what an engine means
 abbrev pub meant : Xtea → Meaning Block64
 meant e = keyed (e .key) (e .allowance .left)
 
 -- what making an engine gave: the engine by what it means, or the refusal
-abbrev pub seen : Result Xtea KeyFault → Result (Meaning Block64) KeyFault
+abbrev pub seen : Result Xtea KeyFault → Result (Meaning Block64) Refusal
 seen (Ok e) = Ok (meant e)
-seen (Err fault) = Err fault
+seen (Err fault) = Err (keyRefusal fault)
 
 -- the published example: key 00 01 .. 0F, block ABCDEFGH
 abbrev pub Published : Type 0
