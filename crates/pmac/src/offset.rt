@@ -4,7 +4,7 @@ ghost use Rattle.pmac.specs.Pmac.{doubled as doubledOf, offset as offsetOf};
 use block::Block;
 
 // `x` doubled `times` times.
-pub fn doubled<B: Block>(mut x: B, times: u32) -> B
+pub(crate) fn doubled<B: Block>(mut x: B, times: u32) -> B
     ensures { λ r. ⌜ r ≡ doubledOf (B·Block .arith) times x ⌝ }
 {
     for _i in 0..times {
@@ -14,7 +14,7 @@ pub fn doubled<B: Block>(mut x: B, times: u32) -> B
 }
 
 // The offset of block `i`, from the bits of its Gray number.
-pub fn offset<B: Block>(l: B, i: usize) -> B
+pub(crate) fn offset<B: Block>(l: B, i: usize) -> B
     ensures { λ r. ⌜ r ≡ offsetOf (B·Block .arith) l i ⌝ }
 {
     let mut g = i ^ (i >> 1);

@@ -14,7 +14,7 @@ use engine::Engine;
 use engine::EngineFault;
 
 // The operations that the full tag of `bits` bits takes.
-pub fn due<B: Block>(bits: usize) -> u32
+pub(crate) fn due<B: Block>(bits: usize) -> u32
     requires { ⌜ bits ≤ 524288 ⌝ }
     ensures { λ r. ⌜ r ≡ blocks (B·Block .arith) bits + 1 ⌝ }
 {
@@ -22,7 +22,7 @@ pub fn due<B: Block>(bits: usize) -> u32
 }
 
 // What the last block of the memory's first `bits` bits adds to the sum.
-pub fn ending<B: Block>(memory: &[u8], bits: usize, l: B) -> B
+pub(crate) fn ending<B: Block>(memory: &[u8], bits: usize, l: B) -> B
     requires { ⌜ bits ≤ 8 * length (now memory) ⌝ }
     ensures { λ r. ⌜ r ≡ endingOf (B·Block .arith) l (lastOf (B·Block .arith) (standing bits (now (memory .entry)))) ⌝ }
 {
@@ -50,7 +50,7 @@ fn seal_block<E: Engine>(
 }
 
 // The sum of Y over the blocks of the memory from `from` up to `to`, where L is `l`.
-pub fn seal_blocks<E: Engine>(
+pub(crate) fn seal_blocks<E: Engine>(
     engine: &mut E,
     memory: &[u8],
     l: E::Block,
@@ -72,7 +72,7 @@ pub fn seal_blocks<E: Engine>(
 }
 
 // The full tag of the memory's first `bits` bits.
-pub fn sealed<E: Engine>(
+pub(crate) fn sealed<E: Engine>(
     engine: &mut E,
     memory: &[u8],
     bits: usize,
