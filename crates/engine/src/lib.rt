@@ -1,7 +1,11 @@
-// What an engine means, and the complement engine.
+// What an engine means, layers over engines, and the complement engine.
 mod allowance;
+mod cap;
+mod cascade;
 mod complement;
 mod fault;
+mod mask;
+mod pile;
 mod refusal;
 
 ghost use mathlib.Core.Path.{_≡_};
@@ -9,10 +13,20 @@ ghost use Prim.Native.Nat.{_<_, _^_};
 ghost use Rattle.engine.specs.Meaning.{Meaning, Undoes, answered, afforded, spent};
 pub use allowance::Allowance;
 use block::Block;
+pub use cap::Cap;
+pub use cap::CapEngine;
+pub use cascade::Cascade;
+pub use cascade::CascadeEngine;
 pub use complement::Complement;
 pub use complement::ComplementEngine;
 pub use fault::EngineFault;
+pub use fault::EngineFaultDebug;
 pub use fault::KeyFault;
+pub use fault::KeyFaultDebug;
+pub use mask::Mask;
+pub use mask::MaskEngine;
+pub use pile::Pile;
+pub use pile::pile_up;
 
 // A block cipher under one key, with a number of operations that it may still be asked for.
 pub trait Engine {

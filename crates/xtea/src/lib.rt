@@ -95,6 +95,16 @@ pub fn published_example()
 #[cfg(test)]
 mod tests {
     use super::*;
+    use engine::Cap;
+    use engine::CapEngine;
+    use engine::Cascade;
+    use engine::CascadeEngine;
+    use engine::Complement;
+    use engine::ComplementEngine;
+    use engine::EngineFaultDebug;
+    use engine::KeyFaultDebug;
+    use engine::Mask;
+    use engine::MaskEngine;
     use std::test::*;
 
     const COUNTING: u128 = 0x00010203_04050607_08090A0B_0C0D0E0F;
@@ -138,5 +148,23 @@ mod tests {
             check_eq(both_ways(key, block, enciphered), Some((enciphered, block)))?;
         }
         Ok(())
+    }
+
+    const BEFORE: u64 = 0x00112233_44556677;
+
+    const AFTER: u64 = 0x8899AABB_CCDDEEFF;
+
+    // A mask over a cap over a cascade of XTEA and complement, on a published vector.
+    #[test]
+    fn layered() -> Result<(), Fail> {
+        let xtea = Xtea::new(&COUNTING.to_be_bytes(), 9)?;
+        let cap = Cap::new(2, Cascade::new(xtea, Complement::new(9)));
+        let mut pile = Mask::new(Block64::new(BEFORE), Block64::new(AFTER), cap);
+        let there = pile.encipher(Block64::new(LETTERS ^ BEFORE))?;
+        check_eq(there.value(), 0xB6820C2F_8D9ED34A ^ AFTER)?;
+        let back = pile.decipher(there)?;
+        check_eq(back.value(), LETTERS ^ BEFORE)?;
+        check_eq(pile.left(), 0)?;
+        check(pile.encipher(back).is_err())
     }
 }
