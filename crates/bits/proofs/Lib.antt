@@ -2,3 +2,4 @@ pub mod Counts
 pub mod Parts
 pub mod Padding
 pub mod Memory
+pub mod Writing

@@ -4,7 +4,8 @@ use mathlib.Core.Bool.{Bool, true, cond}
 use mathlib.Core.List.{List}
 use lib.Dec.{ltb}
 use lib.ListN.{length, take, drop}
-use Rattle.block.specs.Bits.{bitsOf}
+use lib.Seq.{paste}
+use Rattle.block.specs.Bits.{bitsOf, bytesOf}
 use Rattle.block.specs.Arith.{Arith, fromBytes}
 use Rattle.bits.specs.Blocks.{last, padded, whole}
 use Rattle.bits.specs.declared.Last.{Last}
@@ -16,6 +17,10 @@ standing b memory = take b (bitsOf memory)
 -- a memory that is too large, or too small for b bits
 abbrev pub unfit : List ℕ → ℕ → Bool
 unfit memory b = cond (ltb 65536 (length memory)) true (ltb (8 * length memory) b)
+
+-- the memory with the first n bits of edit in place of those from position on
+abbrev pub written : List ℕ → ℕ → List ℕ → ℕ → List ℕ
+written memory position edit n = bytesOf (length memory) (paste (bitsOf memory) position (bitsOf edit) n)
 
 module _ {B : Type 0} (A : Arith B) where
   -- block i as the memory holds it: its n / 8 bytes begin at byte (i - 1) * n / 8

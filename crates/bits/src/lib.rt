@@ -1,4 +1,6 @@
 // Bits in a memory of bytes, read in blocks: position 0 first, the highest bit of a byte first.
+mod write;
+
 ghost use mathlib.Core.Path.{_≡_};
 ghost use mathlib.Core.Bool.{true, false, not};
 ghost use mathlib.Core.List.{_∷_, _++_};
@@ -8,6 +10,7 @@ ghost use Rattle.block.specs.Bits.{bits as bitsIn, bitsOf};
 ghost use Rattle.bits.specs.Blocks.{blocks, padded};
 ghost use Rattle.bits.specs.Memory.{standing, unfit, held, closing};
 use block::Block;
+pub use write::write_bits;
 
 // The last block of some bits, padded where it is short.
 #[derive(Clone, Copy)]
