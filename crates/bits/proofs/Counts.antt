@@ -97,3 +97,7 @@ module _ {B : Type 0} {A : Arith B} (w : Laws A) where
       let some = w .some in
       let few = div-below (b + (width A - 1)) (width A) 65537 wide (omega arith) in
       omega arith
+
+  -- where the last block begins, in bytes
+  pub blocks-within : (b : ℕ) → 8 * ((blocks A b - 1) * A .size) ≤ b
+  blocks-within b = omega (arith, blocks-before b)

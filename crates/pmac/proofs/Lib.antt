@@ -4,3 +4,5 @@ pub mod Sums
 pub mod Endings
 pub mod Spending
 pub mod Sealing
+pub mod Edits
+pub mod Prices

@@ -1,5 +1,5 @@
 -- The sum over the blocks of a memory. Assumes nothing.
-use mathlib.Core.Path.{_≡_, ap, _∙_}
+use mathlib.Core.Path.{_≡_, refl, sym, ap, _∙_}
 use mathlib.Core.Bool.{Bool}
 use mathlib.Core.List.{List}
 use Prim.Native.Nat.{ℕ, _-_, _*_, _≤_, _<_}
@@ -10,14 +10,15 @@ use Rattle.std.proofs.shelf.Lists.{length-take-le}
 use Rattle.block.specs.Bits.{bitsOf}
 use Rattle.block.specs.Arith.{Arith, Laws}
 use Rattle.block.proofs.Bits.{length-bitsOf}
+use Rattle.block.proofs.Group.{across}
 use Rattle.bits.specs.Blocks.{blocks}
 use Rattle.bits.specs.Memory.{standing}
-use Rattle.bits.proofs.Counts.{blocks-some, blocks-inner, blocks-before}
+use Rattle.bits.proofs.Counts.{blocks-some, blocks-mono, blocks-inner, blocks-before}
 use Rattle.bits.proofs.Parts.{part-take}
 use Rattle.bits.proofs.Memory.{part-held, held-inside}
 use Rattle.pmac.specs.Pmac.{over, offset, sealed, sum}
-use Rattle.pmac.specs.Stored.{stored, Sums}
-use Rattle.pmac.proofs.Over.{over-same}
+use Rattle.pmac.specs.Stored.{stored, Sums, Adds, Drops, Puts}
+use Rattle.pmac.proofs.Over.{over-same, over-to, over-change}
 
 module _ {B : Type 0} {A : Arith B} (w : Laws A) where
   -- the sum of a front is over the same blocks
@@ -40,3 +41,20 @@ module _ {B : Type 0} {A : Arith B} (w : Laws A) where
   -- the blocks before the last lie in the memory
   pub in-memory : (memory : List ℕ) (b c : ℕ) → b ≤ 8 * length memory → c ≤ blocks A b → (c - 1) * A .size ≤ length memory
   in-memory memory b c h k = let le : c - 1 ≤ blocks A b - 1 = omega arith in omega (arith, mul-le-mul-right (A .size) le, blocks-before w b)
+
+  pub adds : Adds A
+  adds enc l old new b c h k m e =
+      sums enc l new c k
+      ∙ over-to w (stored A enc l new) 1 (blocks A b) (blocks A c) (blocks-some w b) (blocks-mono w b c h)
+      ∙ ap (λ z. A .plus z (over A (stored A enc l new) (blocks A b) (blocks A c - blocks A b))) (sym (sums enc l new b (omega arith)) ∙ ap (sum A enc l) e)
+
+  pub drops : Drops A
+  drops enc l memory b c h k = across w _ _ _ (sym (adds enc l memory memory c b h k (omega arith) refl))
+
+  pub puts : Puts A
+  unfolding stored
+  puts enc l old new b c d ho hn p q r low high =
+      sums enc l new b hn
+      ∙ over-change w (stored A enc l old) (stored A enc l new) 1 c d (blocks A b) p q r
+      (λ i s t. ap (λ z. enc (A .plus z (offset A l i))) (low i s t)) (λ i s t. ap (λ z. enc (A .plus z (offset A l i))) (high i s t))
+      ∙ ap (λ z. A .plus (A .plus z (over A (stored A enc l old) c (d - c))) (over A (stored A enc l new) c (d - c))) (sym (sums enc l old b ho))

@@ -2,3 +2,5 @@ pub mod Pmac
 pub mod Stored
 pub mod Sealing
 pub mod Cases
+pub mod Edits
+pub mod Prices

@@ -7,12 +7,16 @@ mod seal;
 ghost use mathlib.Core.Path.{_≡_};
 ghost use Rattle.engine.specs.Meaning.{spent};
 ghost use Rattle.pmac.specs.Cases.{Cases};
-ghost use Rattle.pmac.specs.Stored.{Steps, Sums};
+ghost use Rattle.pmac.specs.Edits.{AddsWritten, PutsWritten};
+ghost use Rattle.pmac.specs.Prices.{Prices};
+ghost use Rattle.pmac.specs.Stored.{Steps, Sums, Drops};
 ghost use Rattle.pmac.specs.Sealing.{outcome, operations, fullTag};
 use block::Block;
 use engine::Engine;
 pub use fault::TagFault;
 pub use refusal::TagFromEngine;
+pub use seal::ending;
+pub use seal::seal_blocks;
 
 // The full tag of some bits, and the operations that it took.
 #[derive(Clone, Copy)]
@@ -46,6 +50,18 @@ pub fn full_tag<E: Engine>(
 pub fn sums_stand<B: Block>()
     ensures steps { λ _. ⌜ Steps (B·Block .arith) ⌝ }
     ensures sums { λ _. ⌜ Sums (B·Block .arith) ⌝ }
+{}
+
+// What enters and leaves the sum when bits are added, cut and replaced.
+pub fn edits_stand<B: Block>()
+    ensures adds { λ _. ⌜ AddsWritten (B·Block .arith) ⌝ }
+    ensures cuts { λ _. ⌜ Drops (B·Block .arith) ⌝ }
+    ensures puts { λ _. ⌜ PutsWritten (B·Block .arith) ⌝ }
+{}
+
+// No edit asks for more than the price list's bound, and a put asks for the blocks that it touches.
+pub fn prices_stand<B: Block>()
+    ensures { λ _. ⌜ Prices (B·Block .arith) ⌝ }
 {}
 
 // The worked cases, a row each.

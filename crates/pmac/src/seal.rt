@@ -22,7 +22,7 @@ pub(crate) fn due<B: Block>(bits: usize) -> u32
 }
 
 // What the last block of the memory's first `bits` bits adds to the sum.
-pub(crate) fn ending<B: Block>(memory: &[u8], bits: usize, l: B) -> B
+pub fn ending<B: Block>(memory: &[u8], bits: usize, l: B) -> B
     requires { ⌜ bits ≤ 8 * length (now memory) ⌝ }
     ensures { λ r. ⌜ r ≡ endingOf (B·Block .arith) l (lastOf (B·Block .arith) (standing bits (now (memory .entry)))) ⌝ }
 {
@@ -50,7 +50,7 @@ fn seal_block<E: Engine>(
 }
 
 // The sum of Y over the blocks of the memory from `from` up to `to`, where L is `l`.
-pub(crate) fn seal_blocks<E: Engine>(
+pub fn seal_blocks<E: Engine>(
     engine: &mut E,
     memory: &[u8],
     l: E::Block,

@@ -1,0 +1,5 @@
+pub mod Refusals
+pub mod Ledger
+pub mod Calls
+pub mod Views
+pub mod Tests

@@ -1,0 +1,25 @@
+// An open overlay, and what opening one answers.
+use crate::OverlayFault;
+use crate::Slip;
+use engine::Engine;
+
+// What is kept of an overlay between calls: the engine, the bits standing, L, and the sum of Y over the blocks
+// before the last. The memory is handed to each call.
+pub struct Open<E: Engine> {
+    pub(crate) engine: E,
+    pub(crate) bits: u32,
+    pub(crate) l: E::Block,
+    pub(crate) sum: E::Block,
+}
+
+// Why no overlay was opened, and the engine handed back.
+pub struct Refused<E: Engine> {
+    pub fault: OverlayFault,
+    pub engine: E,
+}
+
+// What opening answers.
+pub struct Opened<E: Engine> {
+    pub outcome: Result<Open<E>, Refused<E>>,
+    pub slip: Slip,
+}
