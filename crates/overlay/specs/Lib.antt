@@ -3,3 +3,4 @@ pub mod Ledger
 pub mod Calls
 pub mod Views
 pub mod Tests
+pub mod Laws

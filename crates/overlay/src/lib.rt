@@ -1,4 +1,5 @@
 // Open overlays, and the slips and accounts for what their calls ask of the engine.
+mod calls;
 mod fault;
 mod judge;
 mod ledger;
