@@ -24,12 +24,13 @@ use Rattle.engine.specs.Meaning.{Meaning, spent}
 use Rattle.pmac.specs.Pmac.{over, sealed, sum, full, ending}
 use Rattle.pmac.specs.Stored.{stored}
 use Rattle.pmac.specs.Edits.{touched, touched-from, touched-to}
+use Rattle.pmac.specs.Prices.{add-due, cut-due, put-due, put-bound}
 use Rattle.pmac.proofs.Sums.{sums, drops}
 use Rattle.pmac.proofs.Over.{over-none}
 use Rattle.pmac.proofs.Edits.{adds-written, puts-written, take-of-paste}
 use Rattle.pmac.proofs.Prices.{prices}
 use Rattle.overlay.specs.Refusals.{Outcome, carried, refused}
-use Rattle.overlay.specs.Calls.{State, World, After, Start, begun, begin, sent, judged, cut, cut-tests, cut-due, cut-done, add, add-tests, add-due, add-done, put, put-tests, put-due, put-done, tag, tag-tests, tag-done}
+use Rattle.overlay.specs.Calls.{State, World, After, Start, begun, begin, sent, judged, cut, cut-tests, cut-done, add, add-tests, add-done, put, put-tests, put-done, tag, tag-tests, tag-done}
 use Rattle.overlay.specs.Laws.{Stands, then, Edits, Adds, Cuts, Puts, Tags, Opens}
 
 length-standing : (b : ℕ) (memory : List ℕ) → b ≤ 8 * length memory → length (standing b memory) ≡ b
@@ -113,12 +114,12 @@ module _ {B : Type 0} {A : Arith B} (w : arithmetic.Laws A) where
   touches : (b pos n : ℕ) → 0 < n → touched A b pos n ≡ touched-to A pos n b - touched-from A pos
   touches b pos n h = ap (λ t. cond t 0 (touched-to A pos n b - touched-from A pos)) (ne-eqb n 0 (λ e. omega arith))
 
-  put-bound : (b pos n : ℕ) → put-due A b pos n ≤ cond (eqb n 0) 0 (2 * (ceil A n + 1))
-  put-bound b pos n = by (cases-lt 0 n)
+  put-fair : (b pos n : ℕ) → put-due A b pos n ≤ put-bound A n
+  put-fair b pos n = by (cases-lt 0 n)
     where
-      by : (0 < n) ⊎ (n ≤ 0) → put-due A b pos n ≤ cond (eqb n 0) 0 (2 * (ceil A n + 1))
+      by : (0 < n) ⊎ (n ≤ 0) → put-due A b pos n ≤ put-bound A n
       by (inl h) =
-          let e : cond (eqb n 0) 0 (2 * (ceil A n + 1)) ≡ 2 * (ceil A n + 1) = ap (λ t. cond t 0 (2 * (ceil A n + 1))) (ne-eqb n 0 (λ e. omega arith)) in
+          let e : put-bound A n ≡ 2 * (ceil A n + 1) = ap (λ t. cond t 0 (2 * (ceil A n + 1))) (ne-eqb n 0 (λ e. omega arith)) in
           omega (arith, touches b pos n h, prices w .put b pos n)
       by (inr h) = omega (arith, untouched b pos n (omega arith))
 
@@ -166,14 +167,14 @@ module _ {B : Type 0} {A : Arith B} (w : arithmetic.Laws A) where
   unfolding passes
   put-law v pos edit n =
       let s = v .state in
-      edits (λ bits. paste bits pos (bitsOf edit) n) (cond (eqb n 0) 0 (2 * (ceil A n + 1))) v (put-tests A v pos edit n) (put-due A (s .bits) pos n) (put-done A v pos edit n) refl
+      edits (λ bits. paste bits pos (bitsOf edit) n) (put-bound A n) v (put-tests A v pos edit n) (put-due A (s .bits) pos n) (put-done A v pos edit n) refl
       (λ bits t h.
       let some : n ≤ 8 * length edit = ltb-false _ _ (t .1 .0) in
       let inside : pos + n ≤ s .bits = ltb-false _ _ (t .1 .1 .0) in
       let long = length-bytesOf (length (v .memory)) (paste (bitsOf (v .memory)) pos (bitsOf edit) n) in
       let both = put-stands s (v .memory) edit pos n bits some inside h in
       record { fits = let f = h .fits in omega arith; first = both .0; l-is = h .l-is; sum-is = both .1 })
-      (λ _. put-bound (s .bits) pos n)
+      (λ _. put-fair (s .bits) pos n)
 
   pub tag-law : (v : World (State B)) (a : After (State B)) → a ≡ tag A v → Tags A v a
   unfolding full

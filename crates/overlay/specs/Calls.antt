@@ -12,6 +12,7 @@ use Rattle.engine.specs.Meaning.{Meaning, spent}
 use Rattle.pmac.specs.Pmac.{over, ending}
 use Rattle.pmac.specs.Stored.{stored}
 use Rattle.pmac.specs.Edits.{touched-from, touched}
+use Rattle.pmac.specs.Prices.{add-due, cut-due, put-due}
 use Rattle.overlay.specs.Refusals.{Outcome, carried, refused, numbered}
 
 -- what an open overlay keeps between calls, with what its engine means
@@ -53,14 +54,11 @@ module _ {B : Type 0} (A : Arith B) where
   over-stored s memory from n = over A (stored A (s .engine .enc) (s .l) memory) from n
 
   -- cut drops the last d bits: the blocks that are no longer before the last one leave the sum
-  abbrev pub cut-due : ℕ → ℕ → ℕ
-  cut-due b d = blocks A b - blocks A (b - d)
-
   abbrev pub cut-done : World (State B) → ℕ → World (State B)
   cut-done w d =
       let s = w .state in let b = s .bits in
       record {
-        state = record { bits = b - d; l = s .l; sum = A .plus (s .sum) (over-stored s (w .memory) (blocks A (b - d)) (cut-due b d)); engine = spent (cut-due b d) (s .engine) };
+        state = record { bits = b - d; l = s .l; sum = A .plus (s .sum) (over-stored s (w .memory) (blocks A (b - d)) (cut-due A b d)); engine = spent (cut-due A b d) (s .engine) };
         memory = w .memory;
         buffer = w .buffer;
       }
@@ -69,17 +67,14 @@ module _ {B : Type 0} (A : Arith B) where
   cut-tests w d = (unfit (w .memory) (w .state .bits), 2) ∷ (ltb (w .state .bits) d, 4) ∷ []
 
   abbrev pub cut : World (State B) → ℕ → After (State B)
-  cut w d = judged (w .state .engine .left) w (cut-tests w d) (cut-due (w .state .bits) d) (cut-done w d)
+  cut w d = judged (w .state .engine .left) w (cut-tests w d) (cut-due A (w .state .bits) d) (cut-done w d)
 
   -- add writes a bits at the end: the blocks that are now before the last one enter the sum, as the memory then holds them
-  abbrev pub add-due : ℕ → ℕ → ℕ
-  add-due b a = blocks A (b + a) - blocks A b
-
   abbrev pub add-done : World (State B) → List ℕ → ℕ → World (State B)
   add-done w edit a =
       let s = w .state in let b = s .bits in let memory = written (w .memory) b edit a in
       record {
-        state = record { bits = b + a; l = s .l; sum = A .plus (s .sum) (over-stored s memory (blocks A b) (add-due b a)); engine = spent (add-due b a) (s .engine) };
+        state = record { bits = b + a; l = s .l; sum = A .plus (s .sum) (over-stored s memory (blocks A b) (add-due A b a)); engine = spent (add-due A b a) (s .engine) };
         memory = memory;
         buffer = w .buffer;
       }
@@ -88,12 +83,9 @@ module _ {B : Type 0} (A : Arith B) where
   add-tests w edit a = (unfit (w .memory) (w .state .bits), 2) ∷ (ltb (8 * length edit) a, 3) ∷ (ltb (8 * length (w .memory)) (w .state .bits + a), 5) ∷ []
 
   abbrev pub add : World (State B) → List ℕ → ℕ → After (State B)
-  add w edit a = judged (w .state .engine .left) w (add-tests w edit a) (add-due (w .state .bits) a) (add-done w edit a)
+  add w edit a = judged (w .state .engine .left) w (add-tests w edit a) (add-due A (w .state .bits) a) (add-done w edit a)
 
   -- put replaces a bits at a position: each touched block before the last one leaves the sum as it was and enters as it is
-  abbrev pub put-due : ℕ → ℕ → ℕ → ℕ
-  put-due b pos a = 2 * touched A b pos a
-
   abbrev pub put-done : World (State B) → ℕ → List ℕ → ℕ → World (State B)
   put-done w pos edit a =
       let s = w .state in let memory = written (w .memory) pos edit a in let from = touched-from A pos in let n = touched A (s .bits) pos a in
@@ -102,7 +94,7 @@ module _ {B : Type 0} (A : Arith B) where
           bits = s .bits;
           l = s .l;
           sum = A .plus (A .plus (s .sum) (over-stored s (w .memory) from n)) (over-stored s memory from n);
-          engine = spent (put-due (s .bits) pos a) (s .engine);
+          engine = spent (put-due A (s .bits) pos a) (s .engine);
         };
         memory = memory;
         buffer = w .buffer;
@@ -112,7 +104,7 @@ module _ {B : Type 0} (A : Arith B) where
   put-tests w pos edit a = (unfit (w .memory) (w .state .bits), 2) ∷ (ltb (8 * length edit) a, 3) ∷ (ltb (w .state .bits) (pos + a), 4) ∷ []
 
   abbrev pub put : World (State B) → ℕ → List ℕ → ℕ → After (State B)
-  put w pos edit a = judged (w .state .engine .left) w (put-tests w pos edit a) (put-due (w .state .bits) pos a) (put-done w pos edit a)
+  put w pos edit a = judged (w .state .engine .left) w (put-tests w pos edit a) (put-due A (w .state .bits) pos a) (put-done w pos edit a)
 
   -- a tag has 4, 8, 12 or 16 bytes, and no more than a block
   abbrev pub taggable : ℕ → Bool

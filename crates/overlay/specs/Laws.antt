@@ -1,16 +1,15 @@
 -- What the calls mean for the bits that stand, for the allowance and for the price list. Assumes nothing.
 use Prim.Native.Nat.{ℕ, _+_, _-_, _*_, _≤_}
 use mathlib.Core.Path.{_≡_}
-use mathlib.Core.Bool.{Bool, cond}
+use mathlib.Core.Bool.{Bool}
 use mathlib.Core.List.{List, [], _++_}
-use lib.Dec.{eqb}
 use lib.ListN.{length, take}
 use lib.Seq.{paste}
 use Rattle.block.specs.Bits.{bitsOf}
 use Rattle.block.specs.Arith.{Arith, toBytes}
-use Rattle.bits.specs.Blocks.{ceil}
 use Rattle.bits.specs.Memory.{standing}
 use Rattle.pmac.specs.Pmac.{sum, full}
+use Rattle.pmac.specs.Prices.{edit-bound, put-bound}
 use Rattle.overlay.specs.Refusals.{Outcome, carried, refused}
 use Rattle.overlay.specs.Calls.{State, World, After, Start, begun, back}
 
@@ -37,13 +36,13 @@ module _ {B : Type 0} (A : Arith B) where
 
   -- add appends, cut drops, put replaces
   abbrev pub Adds : World (State B) → List ℕ → ℕ → After (State B) → Type 0
-  Adds w edit n a = Edits (λ bits. bits ++ take n (bitsOf edit)) (ceil A n) w a
+  Adds w edit n a = Edits (λ bits. bits ++ take n (bitsOf edit)) (edit-bound A n) w a
 
   abbrev pub Cuts : World (State B) → ℕ → After (State B) → Type 0
-  Cuts w n a = Edits (λ bits. take (length bits - n) bits) (ceil A n) w a
+  Cuts w n a = Edits (λ bits. take (length bits - n) bits) (edit-bound A n) w a
 
   abbrev pub Puts : World (State B) → ℕ → List ℕ → ℕ → After (State B) → Type 0
-  Puts w pos edit n a = Edits (λ bits. paste bits pos (bitsOf edit) n) (cond (eqb n 0) 0 (2 * (ceil A n + 1))) w a
+  Puts w pos edit n a = Edits (λ bits. paste bits pos (bitsOf edit) n) (put-bound A n) w a
 
   -- tag leaves the bits, and gives the first bytes of their PMAC from nothing
   pub record Tags (w : World (State B)) (a : After (State B)) : Type 0 where
