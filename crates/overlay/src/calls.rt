@@ -49,20 +49,6 @@ impl<E: Engine> Open<E> {
         }
     }
 
-    // The bits standing.
-    pub fn bits(&self) -> u32
-        ensures { λ r. ⌜ r ≡ now (self .entry) .bits ⌝ }
-    {
-        self.bits
-    }
-
-    // The operations that the engine has left.
-    pub fn left(&self) -> u32
-        ensures { λ r. ⌜ r ≡ E·Engine .means (now (self .entry) .engine) .left ⌝ }
-    {
-        self.engine.left()
-    }
-
     // Writes the first `count` bits of `edit` behind the bits standing.
     pub fn add(&mut self, memory: &mut [u8], edit: &[u8], count: u32) -> Answer
         ensures after { λ r. ⌜ seen r (world (E·Engine .means) (now (self .exit)) (now (memory .exit)) []) ≡ addOf (Block·Block .arith) (world (E·Engine .means) (now (self .entry)) (now (memory .entry)) []) (now (edit .entry)) count ⌝ }
@@ -148,10 +134,10 @@ impl<E: Engine> Open<E> {
         let Span { from, to } = judge::touched_blocks::<E::Block>(self.bits, position, count);
         let due = 2 * (to - from) as u32;
         engine::afford(&self.engine, due)?;
-        let gone = pmac::seal_blocks(&mut self.engine, memory, self.l, from, to)?;
+        let old = pmac::seal_blocks(&mut self.engine, memory, self.l, from, to)?;
         bits::write_bits(memory, position as usize, edit, count as usize);
-        let come = pmac::seal_blocks(&mut self.engine, memory, self.l, from, to)?;
-        self.sum = self.sum.xor(gone).xor(come);
+        let new = pmac::seal_blocks(&mut self.engine, memory, self.l, from, to)?;
+        self.sum = self.sum.xor(old).xor(new);
         Ok(due)
     }
 

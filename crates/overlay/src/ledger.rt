@@ -13,16 +13,18 @@ pub struct Account {
 }
 
 impl Account {
-    pub fn total(&self) -> u32
-        ensures { λ r. ⌜ r ≡ now (self .entry) .total ⌝ }
+    pub fn total(self) -> u32
+        ensures { λ r. ⌜ r ≡ self .total ⌝ }
     {
-        self.total
+        let Account { total, .. } = self;
+        total
     }
 
-    pub fn latest(&self) -> u32
-        ensures { λ r. ⌜ r ≡ now (self .entry) .latest ⌝ }
+    pub fn latest(self) -> u32
+        ensures { λ r. ⌜ r ≡ self .latest ⌝ }
     {
-        self.latest
+        let Account { latest, .. } = self;
+        latest
     }
 
     // Adds an amount to the total, unless that would pass the largest number.

@@ -1,4 +1,5 @@
 // An open overlay, and what opening one answers.
+ghost use mathlib.Core.Path.{_≡_};
 use crate::OverlayFault;
 use crate::Slip;
 use engine::Engine;
@@ -10,6 +11,22 @@ pub struct Open<E: Engine> {
     pub(crate) bits: u32,
     pub(crate) l: E::Block,
     pub(crate) sum: E::Block,
+}
+
+impl<E: Engine> Open<E> {
+    // The bits standing.
+    pub fn bits(&self) -> u32
+        ensures { λ r. ⌜ r ≡ now (self .entry) .bits ⌝ }
+    {
+        self.bits
+    }
+
+    // The operations that the engine has left.
+    pub fn left(&self) -> u32
+        ensures { λ r. ⌜ r ≡ E·Engine .means (now (self .entry) .engine) .left ⌝ }
+    {
+        self.engine.left()
+    }
 }
 
 // Why no overlay was opened, and the engine handed back.
