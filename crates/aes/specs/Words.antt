@@ -1,0 +1,54 @@
+-- The code's form of the cipher: a column is a word of 32 bits, row 0 highest, and a table gives what one byte brings
+-- to a column of the next state. Assumes nothing.
+use mathlib.Core.List.{List, [], _∷_, map}
+use Prim.Native.Nat.{ℕ, _+_, _*_, _/_, _%_, _^_}
+use lib.Bits.{bitXor}
+use Rattle.aes.specs.Field.{times}
+use Rattle.aes.specs.SBox.{sBox, invSBox}
+use Rattle.aes.specs.State.{Column, State, column, columns}
+use Rattle.aes.specs.declared.words.Words.{Words}
+
+abbrev pub packed : Column → ℕ
+packed k = k .s0 * 16777216 + k .s1 * 65536 + k .s2 * 256 + k .s3
+
+abbrev pub unpacked : ℕ → Column
+unpacked w = column (w / 2 ^ 24 % 256) (w / 2 ^ 16 % 256) (w / 2 ^ 8 % 256) (w % 256)
+
+unfoldable pub stateOf : Words → State
+stateOf x = columns (unpacked (x .c0)) (unpacked (x .c1)) (unpacked (x .c2)) (unpacked (x .c3))
+
+abbrev pub four : ℕ → ℕ → ℕ → ℕ → Words
+four j k l m = record { c0 = j; c1 = k; c2 = l; c3 = m }
+
+-- column 0 of a matrix with the row p q r s, times b; and column 1
+abbrev pub brought0 : ℕ → ℕ → ℕ → ℕ → ℕ → Column
+brought0 p q r s b = column (times p b) (times s b) (times r b) (times q b)
+
+abbrev pub brought1 : ℕ → ℕ → ℕ → ℕ → ℕ → Column
+brought1 p q r s b = column (times q b) (times p b) (times s b) (times r b)
+
+-- the tables' rules
+unfoldable pub mixing0 : ℕ → ℕ
+mixing0 x = packed (brought0 2 3 1 1 (sBox x))
+
+unfoldable pub mixing1 : ℕ → ℕ
+mixing1 x = packed (brought1 2 3 1 1 (sBox x))
+
+unfoldable pub unmixing0 : ℕ → ℕ
+unmixing0 x = packed (brought0 14 11 13 9 (invSBox x))
+
+unfoldable pub unmixing1 : ℕ → ℕ
+unmixing1 x = packed (brought1 14 11 13 9 (invSBox x))
+
+-- a word's two halves, exchanged: what turns columns 0 and 1 of the matrix into columns 2 and 3
+abbrev pub swapped : ℕ → ℕ
+swapped w = w % 2 ^ 16 * 2 ^ 16 + w / 2 ^ 16 % 2 ^ 16
+
+-- a column from row 0 of the word w, row 1 of x, row 2 of y and row 3 of z, by two tables, with the key k
+unfoldable pub mixedWord : (ℕ → ℕ) → (ℕ → ℕ) → ℕ → ℕ → ℕ → ℕ → ℕ → ℕ
+mixedWord t0 t1 w x y z k =
+    bitXor (bitXor (bitXor (t0 (w / 2 ^ 24 % 256)) (t1 (x / 2 ^ 16 % 256))) (swapped (bitXor (t0 (y / 2 ^ 8 % 256)) (t1 (z % 256))))) k
+
+-- the same by a table of bytes, with nothing mixed
+unfoldable pub plainWord : (ℕ → ℕ) → ℕ → ℕ → ℕ → ℕ → ℕ → ℕ
+plainWord f w x y z k = bitXor (packed (column (f (w / 2 ^ 24 % 256)) (f (x / 2 ^ 16 % 256)) (f (y / 2 ^ 8 % 256)) (f (z % 256)))) k
