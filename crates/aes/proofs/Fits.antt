@@ -14,7 +14,7 @@ row-lt : (p q r s w x y z : ℕ) → w < 256 → x < 256 → y < 256 → z < 256
 row-lt p q r s w x y z hw hx hy hz =
     xor-lt 8 (times p w) _ (product-lt 8 p w hw) (xor-lt 8 (times q x) _ (product-lt 8 q x hx) (xor-lt 8 (times r y) (times s z) (product-lt 8 r y hy) (product-lt 8 s z hz)))
 
-matrix-bytes : (p q r s : ℕ) (k : Column) → Bytes k → Bytes (matrix p q r s k)
+pub matrix-bytes : (p q r s : ℕ) (k : Column) → Bytes k → Bytes (matrix p q r s k)
 matrix-bytes p q r s k (h0, h1, h2, h3) = (
   row-lt p q r s (k .s0) (k .s1) (k .s2) (k .s3) h0 h1 h2 h3,
   row-lt p q r s (k .s1) (k .s2) (k .s3) (k .s0) h1 h2 h3 h0,

@@ -7,7 +7,7 @@ use Rattle.aes.specs.State.{Column, State, column, columns, each, every, Bytes
 use Rattle.aes.specs.Cipher.{subBytes, shiftRows, mixColumns, plus, addRoundKey, invSubBytes, invShiftRows, invMixColumns, wholeRound, lastRound, rounds, Keys, cipher, invWholeRound, invLastRound, invRounds, invCipher, StepsUndo, FitKeys, RoundsUndo}
 use Rattle.aes.proofs.Field.{xor-undo}
 use Rattle.aes.proofs.Substitution.{boxes-undo}
-use Rattle.aes.proofs.Columns.{inv-mix, mix-inv}
+use Rattle.aes.proofs.Mixing.{inv-mix, mix-inv}
 use Rattle.aes.proofs.Fits.{inv-shift-fit, add-fit, unstirred-fit, round-fit, rounds-fit, inv-rounds-fit}
 
 -- ---- the steps

@@ -1,6 +1,6 @@
 -- FIPS 197, sections 5.1 and 5.3: the cipher and the inverse cipher, over any list of round keys. Assumes nothing.
 use mathlib.Core.Path.{_≡_}
-use mathlib.Core.List.{List, [], _∷_, map}
+use mathlib.Core.List.{List, [], _∷_}
 use Prim.Native.Nat.{ℕ}
 use lib.Bits.{bitXor}
 use Rattle.aes.specs.Field.{times}
@@ -94,15 +94,6 @@ invRounds (k ∷ ks) x = invWholeRound k (invRounds ks x)
 
 unfoldable pub invCipher : Keys → State → State
 invCipher w x = invLastRound (w .first) (invRounds (w .middle) (addRoundKey x (w .last)))
-
--- ---- the equivalent inverse cipher, 5.3.5: keys that went through InvMixColumns are added after it
-
-unfoldable pub eqInvRound : State → State → State
-eqInvRound k x = addRoundKey (invMixColumns (invSubBytes (invShiftRows x))) k
-
-unfoldable pub eqInvRounds : List State → State → State
-eqInvRounds [] x = x
-eqInvRounds (k ∷ ks) x = eqInvRound k (eqInvRounds ks x)
 
 -- ---- what is undone
 

@@ -4,4 +4,5 @@ pub mod State
 pub mod Cipher
 pub mod Schedule
 pub mod Words
+pub mod Keyed
 pub mod Maps

@@ -1,11 +1,12 @@
 -- The code's form of the cipher: a column is a word of 32 bits, row 0 highest, and a table gives what one byte brings
 -- to a column of the next state. Assumes nothing.
-use mathlib.Core.List.{List, [], _∷_, map}
+use mathlib.Core.Path.{_≡_}
 use Prim.Native.Nat.{ℕ, _+_, _*_, _/_, _%_, _^_}
 use lib.Bits.{bitXor}
 use Rattle.aes.specs.Field.{times}
 use Rattle.aes.specs.SBox.{sBox, invSBox}
 use Rattle.aes.specs.State.{Column, State, column, columns}
+use Rattle.aes.specs.Cipher.{invMixColumn}
 use Rattle.aes.specs.declared.words.Words.{Words}
 
 abbrev pub packed : Column → ℕ
@@ -44,11 +45,18 @@ unmixing1 x = packed (brought1 14 11 13 9 (invSBox x))
 abbrev pub swapped : ℕ → ℕ
 swapped w = w % 2 ^ 16 * 2 ^ 16 + w / 2 ^ 16 % 2 ^ 16
 
--- a column from row 0 of the word w, row 1 of x, row 2 of y and row 3 of z, by two tables, with the key k
+-- a column from row 0 of the word w, row 1 of x, row 2 of y and row 3 of z, by the two parts of a table, with the key k
 unfoldable pub mixedWord : (ℕ → ℕ) → (ℕ → ℕ) → ℕ → ℕ → ℕ → ℕ → ℕ → ℕ
 mixedWord t0 t1 w x y z k =
-    bitXor (bitXor (bitXor (t0 (w / 2 ^ 24 % 256)) (t1 (x / 2 ^ 16 % 256))) (swapped (bitXor (t0 (y / 2 ^ 8 % 256)) (t1 (z % 256))))) k
+    bitXor (bitXor (bitXor (t0 (unpacked w .s0)) (t1 (unpacked x .s1))) (swapped (bitXor (t0 (unpacked y .s2)) (t1 (unpacked z .s3))))) k
 
 -- the same by a table of bytes, with nothing mixed
 unfoldable pub plainWord : (ℕ → ℕ) → ℕ → ℕ → ℕ → ℕ → ℕ → ℕ
-plainWord f w x y z k = bitXor (packed (column (f (w / 2 ^ 24 % 256)) (f (x / 2 ^ 16 % 256)) (f (y / 2 ^ 8 % 256)) (f (z % 256)))) k
+plainWord f w x y z k = bitXor (packed (column (f (unpacked w .s0)) (f (unpacked x .s1)) (f (unpacked y .s2)) (f (unpacked z .s3)))) k
+
+-- a word after InvMixColumns, and words that are others so
+unfoldable pub unmixedWord : ℕ → ℕ
+unmixedWord w = packed (invMixColumn (unpacked w))
+
+abbrev pub Unmixes : Words → Words → Type 0
+Unmixes k u = (u .c0 ≡ unmixedWord (k .c0)) × (u .c1 ≡ unmixedWord (k .c1)) × (u .c2 ≡ unmixedWord (k .c2)) × (u .c3 ≡ unmixedWord (k .c3))

@@ -1,5 +1,8 @@
 // AES-128 to FIPS 197.
 mod boxes;
+mod columns;
+mod key;
+mod rounds;
 mod tables;
 mod theorems;
 mod words;
