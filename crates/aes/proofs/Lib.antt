@@ -6,3 +6,5 @@ pub mod Fits
 pub mod Undo
 pub mod Pack
 pub mod Turns
+pub mod Expansion
+pub mod Maps

@@ -13,6 +13,19 @@ use Rattle.aes.specs.Words.{packed, unpacked, stateOf, four, brought0, brought
 use Rattle.aes.specs.declared.words.Words.{Words}
 use Rattle.aes.proofs.Field.{product-lt}
 
+-- the lowest byte of the lowest few
+pub byte-of-byte : (v : ℕ) → v % 2 ^ 8 % 256 ≡ v % 256
+byte-of-byte v = omega arith
+
+pub byte-of-half : (v : ℕ) → v % 2 ^ 16 % 256 ≡ v % 256
+byte-of-half v = omega arith
+
+pub byte-of-three : (v : ℕ) → v % 2 ^ 24 % 256 ≡ v % 256
+byte-of-three v = omega arith
+
+byte-of-word : (v : ℕ) → v % 2 ^ 32 % 256 ≡ v % 256
+byte-of-word v = omega arith
+
 pub unpacked-bytes : (w : ℕ) → Bytes (unpacked w)
 unpacked-bytes w = omega arith
 
@@ -28,7 +41,7 @@ unpacked-packed k (h0, h1, h2, h3) =
     let e3 : packed k % 256 ≡ k .s3 = omega arith in
     λ i. column (e0 i) (e1 i) (e2 i) (e3 i)
 
-packed-unpacked : (w : ℕ) → w < 2 ^ 32 → packed (unpacked w) ≡ w
+pub packed-unpacked : (w : ℕ) → w < 2 ^ 32 → packed (unpacked w) ≡ w
 packed-unpacked w h =
     let e2 = shr-shr w 8 8 in
     let e3 = shr-shr w 16 8 in
@@ -46,6 +59,9 @@ unpacked-xor u v =
     λ k. ap (λ (z : ℕ). z % 256) (xor-shr u v k) ∙ xor-mod (u / 2 ^ k) (v / 2 ^ k) 8 in
     λ i. column (at 24 i) (at 16 i) (at 8 i) (xor-mod u v 8 i)
 
+pub plus-none : (k : Column) → plus k (unpacked 0) ≡ k
+plus-none k = λ i. column (xor-zero-r (k .s0) i) (xor-zero-r (k .s1) i) (xor-zero-r (k .s2) i) (xor-zero-r (k .s3) i)
+
 pub xor-state : (x k : Words) → stateOf (four (bitXor (x .c0) (k .c0)) (bitXor (x .c1) (k .c1)) (bitXor (x .c2) (k .c2)) (bitXor (x .c3) (k .c3))) ≡ addRoundKey (stateOf x) (stateOf k)
 unfolding stateOf
 xor-state x k = λ i. columns (unpacked-xor (x .c0) (k .c0) i) (unpacked-xor (x .c1) (k .c1) i) (unpacked-xor (x .c2) (k .c2) i) (unpacked-xor (x .c3) (k .c3) i)
@@ -55,14 +71,11 @@ xor-state x k = λ i. columns (unpacked-xor (x .c0) (k .c0) i) (unpacked-xor (x 
 -- a word is the lowest 32 bits
 low : (v : ℕ) → unpacked (v % 2 ^ 32) ≡ unpacked v
 low v =
-    let e0 : v / 2 ^ 24 % 2 ^ 8 % 256 ≡ v / 2 ^ 24 % 256 = omega arith in
-    let e1 : v / 2 ^ 16 % 2 ^ 16 % 256 ≡ v / 2 ^ 16 % 256 = omega arith in
-    let e2 : v / 2 ^ 8 % 2 ^ 24 % 256 ≡ v / 2 ^ 8 % 256 = omega arith in
-    let e3 : v % 2 ^ 32 % 256 ≡ v % 256 = omega arith in
-    let at0 = ap (λ (z : ℕ). z % 256) (field-of v 8 24) ∙ e0 in
-    let at1 = ap (λ (z : ℕ). z % 256) (field-of v 16 16) ∙ e1 in
-    let at2 = ap (λ (z : ℕ). z % 256) (field-of v 24 8) ∙ e2 in
-    λ i. column (at0 i) (at1 i) (at2 i) (e3 i)
+    let at0 = ap (λ (z : ℕ). z % 256) (field-of v 8 24) ∙ byte-of-byte (v / 2 ^ 24) in
+    let at1 = ap (λ (z : ℕ). z % 256) (field-of v 16 16) ∙ byte-of-half (v / 2 ^ 16) in
+    let at2 = ap (λ (z : ℕ). z % 256) (field-of v 24 8) ∙ byte-of-three (v / 2 ^ 8) in
+    let at3 = byte-of-word v in
+    λ i. column (at0 i) (at1 i) (at2 i) (at3 i)
 
 -- the word that begins at bit k, by the bytes of the whole
 from-bit : (x k : ℕ) → unpacked (x / 2 ^ k) ≡ column (x / 2 ^ (k + 24) % 256) (x / 2 ^ (k + 16) % 256) (x / 2 ^ (k + 8) % 256) (x / 2 ^ k % 256)
@@ -92,12 +105,6 @@ join-number x w0 w1 w2 w3 x0 x1 x2 x3 h0 h1 h2 h3 =
     omega arith
 
 -- ---- what the tables bring
-
-byte-of-half : (v : ℕ) → v % 2 ^ 16 % 256 ≡ v % 256
-byte-of-half v = omega arith
-
-byte-of-byte : (v : ℕ) → v % 2 ^ 8 % 256 ≡ v % 256
-byte-of-byte v = omega arith
 
 -- two halves: rows 0 and 1, then rows 2 and 3
 halves : (u l : ℕ) → l < 2 ^ 16 → unpacked (u * 2 ^ 16 + l) ≡ column (u / 2 ^ 8 % 256) (u % 256) (l / 2 ^ 8 % 256) (l % 256)

@@ -22,7 +22,7 @@ pub steps-undo : StepsUndo
 steps-undo = record { inv-shift = λ x. refl; shift-inv = λ x. refl; inv-mix = inv-mix; mix-inv = mix-inv; add-add = add-add }
 
 module _ (f g : ℕ → ℕ) (u : (x : ℕ) → x < 256 → f (g x) ≡ x) where
-  each-undone : (k : Column) → Bytes k → each f (each g k) ≡ k
+  pub each-undone : (k : Column) → Bytes k → each f (each g k) ≡ k
   each-undone k (h0, h1, h2, h3) = λ i. column (u (k .s0) h0 i) (u (k .s1) h1 i) (u (k .s2) h2 i) (u (k .s3) h3 i)
 
   bytes-undone : (x : State) → Fit x → every (each f) (every (each g) x) ≡ x
@@ -69,11 +69,11 @@ pub rounds-undo : RoundsUndo
 unfolding cipher invCipher lastRound invLastRound
 rounds-undo = record {
   inv-cipher = λ w x (hf, hm, hl) h.
-  let y = addRoundKey x (w .first) in
-  ap (λ z. addRoundKey (unstirred (invRounds (w .middle) z)) (w .first)) (add-add (stirred (rounds (w .middle) y)) (w .last))
-  ∙ ap (λ z. addRoundKey z (w .first)) (undo-rounds (w .middle) y hm (add-fit x (w .first) h hf)) ∙ add-add x (w .first);
+      let y = addRoundKey x (w .first) in
+      ap (λ z. addRoundKey (unstirred (invRounds (w .middle) z)) (w .first)) (add-add (stirred (rounds (w .middle) y)) (w .last))
+      ∙ ap (λ z. addRoundKey z (w .first)) (undo-rounds (w .middle) y hm (add-fit x (w .first) h hf)) ∙ add-add x (w .first);
   cipher-inv = λ w x (hf, hm, hl) h.
-  let y = addRoundKey x (w .last) in
-  ap (λ z. addRoundKey (stirred (rounds (w .middle) z)) (w .last)) (add-add (unstirred (invRounds (w .middle) y)) (w .first))
-  ∙ ap (λ z. addRoundKey z (w .last)) (redo-rounds (w .middle) y hm (add-fit x (w .last) h hl)) ∙ add-add x (w .last);
+      let y = addRoundKey x (w .last) in
+      ap (λ z. addRoundKey (stirred (rounds (w .middle) z)) (w .last)) (add-add (unstirred (invRounds (w .middle) y)) (w .first))
+      ∙ ap (λ z. addRoundKey z (w .last)) (redo-rounds (w .middle) y hm (add-fit x (w .last) h hl)) ∙ add-add x (w .last);
 }

@@ -6,3 +6,4 @@ pub mod Schedule
 pub mod Words
 pub mod Keyed
 pub mod Maps
+pub mod Engine

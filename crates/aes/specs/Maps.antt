@@ -21,7 +21,7 @@ unfoldable pub onBlock : (State → State) → Block128 → Block128
 onBlock f x = fromBytes arith128 (bytesIn (f (state (toBytes arith128 x))))
 
 -- an engine over round keys
-unfoldable pub keyed : Keys → ℕ → Meaning Block128
+abbrev pub keyed : Keys → ℕ → Meaning Block128
 keyed w left = record { enc = onBlock (cipher w); dec = onBlock (invCipher w); left = left }
 
 -- an engine of a key in bytes: AES with nk words of key, and no engine of another length
