@@ -8,3 +8,4 @@ pub mod Pack
 pub mod Turns
 pub mod Expansion
 pub mod Maps
+pub mod Examples

@@ -7,3 +7,4 @@ pub mod Words
 pub mod Keyed
 pub mod Maps
 pub mod Engine
+pub mod Examples

@@ -54,6 +54,17 @@ mixedWord t0 t1 w x y z k =
 unfoldable pub plainWord : (ℕ → ℕ) → ℕ → ℕ → ℕ → ℕ → ℕ → ℕ
 plainWord f w x y z k = bitXor (packed (column (f (unpacked w .s0)) (f (unpacked x .s1)) (f (unpacked y .s2)) (f (unpacked z .s3)))) k
 
+-- the four columns of the next state, each by m: the choice of words is ShiftRows, and InvShiftRows
+abbrev pub shifted : (ℕ → ℕ → ℕ → ℕ → ℕ → ℕ) → Words → Words → Words
+shifted m k x =
+    four (m (x .c0) (x .c1) (x .c2) (x .c3) (k .c0)) (m (x .c1) (x .c2) (x .c3) (x .c0) (k .c1))
+    (m (x .c2) (x .c3) (x .c0) (x .c1) (k .c2)) (m (x .c3) (x .c0) (x .c1) (x .c2) (k .c3))
+
+abbrev pub invShifted : (ℕ → ℕ → ℕ → ℕ → ℕ → ℕ) → Words → Words → Words
+invShifted m k x =
+    four (m (x .c0) (x .c3) (x .c2) (x .c1) (k .c0)) (m (x .c1) (x .c0) (x .c3) (x .c2) (k .c1))
+    (m (x .c2) (x .c1) (x .c0) (x .c3) (k .c2)) (m (x .c3) (x .c2) (x .c1) (x .c0) (k .c3))
+
 -- a word after InvMixColumns, and words that are others so
 unfoldable pub unmixedWord : ℕ → ℕ
 unmixedWord w = packed (invMixColumn (unpacked w))

@@ -2,10 +2,10 @@
 ghost use mathlib.Core.Path.{_≡_};
 ghost use Rattle.aes.specs.SBox.{sBox, invSBox};
 ghost use Rattle.aes.specs.Words.{mixing0, mixing1, unmixing0, unmixing1};
-use crate::tables::INV_SBOX;
+use crate::inv_tables::INV_SBOX;
+use crate::inv_tables::UNMIXING;
 use crate::tables::MIXING;
 use crate::tables::SBOX;
-use crate::tables::UNMIXING;
 
 pub(crate) fn substitute(x: u8) -> u8
     ensures { λ r. ⌜ r ≡ sBox x ⌝ }

@@ -1,7 +1,8 @@
 // One column of the next state, as a word, from the four words that ShiftRows brings it together from.
 ghost use mathlib.Core.Path.{_≡_};
 ghost use Rattle.aes.specs.SBox.{sBox, invSBox};
-ghost use Rattle.aes.specs.Words.{unpacked, mixing0, mixing1, unmixing0, unmixing1, swapped, mixedWord, plainWord};
+ghost use Rattle.aes.specs.State.{column};
+ghost use Rattle.aes.specs.Words.{packed, unpacked, mixing0, mixing1, unmixing0, unmixing1, swapped, mixedWord, plainWord};
 use crate::boxes;
 
 fn row0(w: u32) -> u8
@@ -26,6 +27,12 @@ fn row3(w: u32) -> u8
     ensures { λ r. ⌜ r ≡ unpacked w .s3 ⌝ }
 {
     (w % 256) as u8
+}
+
+fn pack(s0: u8, s1: u8, s2: u8, s3: u8) -> u32
+    ensures { λ r. ⌜ r ≡ packed (column s0 s1 s2 s3) ⌝ }
+{
+    (u32::from(s0) << 24) + (u32::from(s1) << 16) + (u32::from(s2) << 8) + u32::from(s3)
 }
 
 // Rows 0 and 1 change places with rows 2 and 3.
@@ -57,24 +64,24 @@ pub(crate) fn unmixed(w: u32, x: u32, y: u32, z: u32, k: u32) -> u32
 pub(crate) fn substituted(w: u32, x: u32, y: u32, z: u32, k: u32) -> u32
     ensures { λ r. ⌜ r ≡ plainWord sBox w x y z k ⌝ }
 {
-    u32::from_be_bytes([
+    let rows = pack(
         boxes::substitute(row0(w)),
         boxes::substitute(row1(x)),
         boxes::substitute(row2(y)),
         boxes::substitute(row3(z)),
-    ])
-        ^ k
+    );
+    rows ^ k
 }
 
 // InvSubBytes alone.
 pub(crate) fn inv_substituted(w: u32, x: u32, y: u32, z: u32, k: u32) -> u32
     ensures { λ r. ⌜ r ≡ plainWord invSBox w x y z k ⌝ }
 {
-    u32::from_be_bytes([
+    let rows = pack(
         boxes::inv_substitute(row0(w)),
         boxes::inv_substitute(row1(x)),
         boxes::inv_substitute(row2(y)),
         boxes::inv_substitute(row3(z)),
-    ])
-        ^ k
+    );
+    rows ^ k
 }

@@ -2,6 +2,7 @@
 ghost use Rattle.aes.specs.Field.{InverseIsOne};
 ghost use Rattle.aes.specs.SBox.{BoxesUndo};
 ghost use Rattle.aes.specs.Cipher.{StepsUndo, RoundsUndo};
+ghost use Rattle.aes.specs.Examples.{Published};
 
 // The inverse in the field is one: a byte but 0, times its inverse, is 1.
 pub fn inverse_is_one()
@@ -21,4 +22,9 @@ pub fn steps_undo()
 // The cipher and the inverse cipher undo each other, over any round keys.
 pub fn rounds_undo()
     ensures { λ _. ⌜ RoundsUndo ⌝ }
+{}
+
+// The definitions give the standard's own examples, at all three lengths of key.
+pub fn published_examples()
+    ensures { λ _. ⌜ Published ⌝ }
 {}

@@ -13,4 +13,4 @@ returns c =
     let x = c .inv-substitute-2 .ensures ∙ ap invSBox (c .row1 .ensures) in
     let y = c .inv-substitute-3 .ensures ∙ ap invSBox (c .row2 .ensures) in
     let z = c .inv-substitute-4 .ensures ∙ ap invSBox (c .row3 .ensures) in
-    ap (λ (n : ℕ). bitXor n (c .args .k)) (c .from-be-bytes .ensures) ∙ (λ i. bitXor (packed (column (w i) (x i) (y i) (z i))) (c .args .k))
+    ap (λ (n : ℕ). bitXor n (c .args .k)) (c .pack-rows .ensures) ∙ (λ i. bitXor (packed (column (w i) (x i) (y i) (z i))) (c .args .k))

@@ -13,4 +13,4 @@ returns c =
     let x = c .substitute-2 .ensures ∙ ap sBox (c .row1 .ensures) in
     let y = c .substitute-3 .ensures ∙ ap sBox (c .row2 .ensures) in
     let z = c .substitute-4 .ensures ∙ ap sBox (c .row3 .ensures) in
-    ap (λ (n : ℕ). bitXor n (c .args .k)) (c .from-be-bytes .ensures) ∙ (λ i. bitXor (packed (column (w i) (x i) (y i) (z i))) (c .args .k))
+    ap (λ (n : ℕ). bitXor n (c .args .k)) (c .pack-rows .ensures) ∙ (λ i. bitXor (packed (column (w i) (x i) (y i) (z i))) (c .args .k))

@@ -13,7 +13,7 @@ pub loop-i-holds : need.loop-i-holds
 loop-i-holds c = (omega arith, simp take-length)
 
 pub loop-i-again : need.loop-i-again
-loop-i-again c = (omega arith, down (c .args .keys .now) (c .loop-i .i) _ _ _ _ _ (omega arith) (omega arith) (c .index-keys-i .is) (c .inv-whole-round-x .ensures) (c .loop-i .inv .1))
+loop-i-again c = (omega arith, down (c .args .keys .now) (c .loop-i .i) _ (c .index-keys-i .result) _ _ _ (omega arith) (omega arith) (c .inv-whole-round-x .ensures) (c .loop-i .inv .1))
 
 pub returns : need.returns
 unfolding invRounds
