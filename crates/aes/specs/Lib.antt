@@ -1,0 +1,10 @@
+pub mod Field
+pub mod SBox
+pub mod State
+pub mod Cipher
+pub mod Schedule
+pub mod Words
+pub mod Keyed
+pub mod Maps
+pub mod Engine
+pub mod Examples
