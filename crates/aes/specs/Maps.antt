@@ -1,7 +1,7 @@
 -- The two maps of an AES engine on blocks, and what the engine of a key is. Assumes nothing.
 use Prim.Native.Nat.{ℕ, _*_}
 use mathlib.Core.Bool.{cond}
-use mathlib.Core.List.{List, map}
+use mathlib.Core.List.{List, [], map}
 use lib.Dec.{eqb}
 use lib.ListN.{length}
 use Rattle.std.specs.declared.result.Result.{Result}
@@ -10,8 +10,7 @@ use Rattle.block.specs.Arith.{fromBytes, toBytes}
 use Rattle.block.specs.Blocks.{arith128}
 use Rattle.block.specs.declared.block128.Block128.{Block128}
 use Rattle.engine.specs.Meaning.{Meaning}
-use Rattle.engine.specs.declared.fault.KeyFault.{KeyFault}
-use Rattle.engine.specs.declared.fault.KeyFault.the-variants.{Length}
+use Rattle.engine.specs.Refusals.{Refusal}
 use Rattle.aes.specs.State.{State, state, bytesIn}
 use Rattle.aes.specs.Cipher.{Keys, cipher, invCipher}
 use Rattle.aes.specs.Schedule.{keySchedule}
@@ -24,6 +23,6 @@ onBlock f x = fromBytes arith128 (bytesIn (f (state (toBytes arith128 x))))
 abbrev pub keyed : Keys → ℕ → Meaning Block128
 keyed w left = record { enc = onBlock (cipher w); dec = onBlock (invCipher w); left = left }
 
--- an engine of a key in bytes: AES with nk words of key, and no engine of another length
-abbrev pub aes : ℕ → List ℕ → ℕ → Result (Meaning Block128) KeyFault
-aes nk key left = cond (eqb (length key) (4 * nk)) (Ok (keyed (keySchedule nk key) left)) (Err Length)
+-- an engine of a key in bytes: AES with nk words of key, and refusal 1 of a key of another length
+abbrev pub aes : ℕ → List ℕ → ℕ → Result (Meaning Block128) Refusal
+aes nk key left = cond (eqb (length key) (4 * nk)) (Ok (keyed (keySchedule nk key) left)) (Err (record { number = 1; told = [] }))

@@ -1,5 +1,6 @@
 -- Hex of one byte more; the front and the rest of an input. Assumes nothing.
 use mathlib.Core.Path.{_≡_, refl, sym, ap, _∙_}
+use mathlib.Core.Bool.{Bool, true, false}
 use mathlib.Core.List.{List, [], _∷_, _++_, append-assoc}
 use mathlib.Core.Logic.{_⊎_, inl, inr}
 use Prim.Native.Nat.{ℕ, min, _+_, _/_, _%_, _<_, _≤_}
@@ -7,6 +8,7 @@ use native.Mathlib.Numerals.{add-one}
 use native.Mathlib.Omega.{arith}
 use lib.ListN.{length, take, drop, getD}
 use lib.Seq.{take-suc}
+use Rattle.std.specs.Orderings.{Decides}
 use Rattle.std.proofs.shelf.Lists.{take-all, drop-all}
 use Rattle.std.proofs.shelf.Tests.{cases-lt}
 use Rattle.report.specs.Hex.{hexDigit, hexOf}
@@ -44,3 +46,8 @@ drop-up-to xs k = by (cases-lt (length xs) k)
     by : (length xs < k) ⊎ (k ≤ length xs) → drop (min (length xs) k) xs ≡ drop k xs
     by (inl h) = let e : min (length xs) k ≡ length xs = omega arith in ap (λ n. drop n xs) e ∙ drop-all (length xs) xs (omega arith) ∙ sym (drop-all k xs (omega arith))
     by (inr h) = let e : min (length xs) k ≡ k = omega arith in ap (λ n. drop n xs) e
+
+-- a test of what does not hold fails
+pub not-so : {P : Type 0} (b : Bool) → Decides b P → (P → ⊥) → b ≡ false
+not-so true d no-p = absurd (no-p (d .0 refl))
+not-so false d no-p = refl

@@ -1,3 +1,4 @@
 pub mod Hex
 pub mod Seal
 pub mod Shown
+pub mod Arguments

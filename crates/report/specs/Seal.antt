@@ -2,17 +2,20 @@
 use Prim.Native.Nat.{ℕ, _*_}
 use mathlib.Core.List.{List, _++_}
 use lib.Chars.{codes}
-use lib.ListN.{length, take, drop}
+use lib.ListN.{length}
 use Rattle.std.specs.declared.result.Result.{Result}
 use Rattle.std.specs.declared.result.Result.the-variants.{Ok, Err}
 use Rattle.std.specs.Written.{decimal}
 use Rattle.block.specs.Arith.{Arith, toBytes}
-use Rattle.block.specs.Blocks.{arith64}
+use Rattle.block.specs.Blocks.{arith64, arith128}
 use Rattle.bits.specs.Blocks.{blocks}
 use Rattle.engine.specs.Meaning.{Meaning}
 use Rattle.engine.specs.Refusals.{Refusal}
 use Rattle.pmac.specs.Sealing.{Outcome, worked, refused, fullTag}
-use Rattle.xtea.specs.Xtea.{made}
+use Rattle.aes.specs.Maps.{aes}
+use Rattle.xtea.specs.Xtea.{made as xteaOf}
+use Rattle.report.specs.declared.cipher.Cipher.{Cipher}
+use Rattle.report.specs.declared.cipher.Cipher.the-variants.{Aes, Xtea}
 use Rattle.report.specs.Hex.{hexOf}
 
 -- one line: bits, blocks, operations and the full tag in hex, or the refusal's number
@@ -38,6 +41,7 @@ abbrev pub sealUnder : {B : Type 0} → Arith B → Result (Meaning B) Refusal �
 sealUnder A (Ok m) message = sealOf A m message
 sealUnder A (Err r) message = refusalLine (r .number)
 
--- all that is printed of an input: a key of 16 bytes, and the message behind it
-abbrev pub sealText : List ℕ → List ℕ
-sealText input = underHeader (sealUnder arith64 (made (take 16 input) 1000000) (drop 16 input))
+-- a message sealed under a key's bytes, by the cipher that is named
+abbrev pub sealBy : Cipher → List ℕ → List ℕ → List ℕ
+sealBy Aes key message = sealUnder arith128 (aes 4 key 1000000) message
+sealBy Xtea key message = sealUnder arith64 (xteaOf key 1000000) message

@@ -1,7 +1,14 @@
 // What the programs print, as text that is proved.
+mod arguments;
+mod cipher;
 mod digits;
 mod seal;
 
+pub use arguments::engine_names;
+pub use arguments::seal_input;
+pub use arguments::seal_key;
+pub use cipher::Cipher;
+pub use cipher::cipher_named;
 pub use digits::hex;
 pub use seal::SealLine;
 pub use seal::SealLineDisplay;

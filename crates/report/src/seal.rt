@@ -11,13 +11,19 @@ ghost use Rattle.block.specs.Arith.{toBytes};
 ghost use Rattle.pmac.specs.Sealing.{outcome, fullTag, operations};
 ghost use Rattle.engine.specs.Meaning.{spent};
 ghost use Rattle.report.specs.Hex.{hexOf};
-ghost use Rattle.report.specs.Seal.{sealOf, sealUnder, sealText, underHeader};
+ghost use Rattle.report.specs.Seal.{refusalLine, sealOf, sealUnder, sealBy, underHeader};
 ghost use Rattle.report.specs.Shown.{lineBytes};
-ghost use Rattle.block.specs.Blocks.{arith64};
-ghost use Rattle.xtea.specs.Xtea.{made as engineOf};
+ghost use Rattle.block.specs.Blocks.{arith64, arith128};
+ghost use Rattle.aes.specs.Maps.{aes as aesOf};
+ghost use Rattle.engine.specs.Refusals.{keyRefusal};
+ghost use Rattle.xtea.specs.Xtea.{made as xteaOf};
+use crate::Cipher;
 use crate::hex;
+use aes::Aes128;
+use aes::Aes128Engine;
 use block::Block;
 use engine::Engine;
+use engine::KeyFault;
 use pmac::FullTag;
 use pmac::TagFault;
 use std::alloc::AllocError;
@@ -25,8 +31,6 @@ use std::alloc::Global;
 use std::fmt;
 use xtea::Xtea;
 use xtea::XteaEngine;
-
-const KEY_BYTES: usize = 16;
 
 // The operations that a program's engine is made with.
 const ALLOWANCE: u32 = 1_000_000;
@@ -43,6 +47,17 @@ pub enum SealLine {
     Refusal {
         number: u32,
     },
+}
+
+impl SealLine {
+    // The line for a key that gives no engine.
+    fn refusal(fault: KeyFault) -> Self
+        ensures { λ r. ⌜ lineBytes r ≡ refusalLine (keyRefusal fault .number) ⌝ }
+    {
+        SealLine::Refusal {
+            number: fault.number(),
+        }
+    }
 }
 
 pub impl fmt::Display for SealLine as SealLineDisplay {
@@ -87,31 +102,51 @@ fn seal_line<E: Engine>(
     }
 }
 
-// The whole text for an input: a key of 16 bytes, and the message behind it.
-pub fn seal_text(heap: Global, input: &[u8]) -> Result<String, AllocError>
-    ensures { λ r. ⌜ made r (λ s. string-bytes s ≡ sealText (now (input .entry))) ⌝ }
+// The text for a message under a key: the header, and the line under it.
+pub fn seal_text(
+    heap: Global,
+    cipher: Cipher,
+    key: &[u8],
+    message: &[u8],
+) -> Result<String, AllocError>
+    ensures { λ r. ⌜ made r (λ s. string-bytes s ≡ underHeader (sealBy cipher (now (key .entry)) (now (message .entry)))) ⌝ }
 {
-    let (key, message) = input.split_at(input.len().min(KEY_BYTES));
-    let line = line_under(heap, key, message)?;
+    let line = line_by(heap, cipher, key, message)?;
     under_header(heap, &line)
 }
 
-// The header, and the line under it.
-fn under_header(heap: Global, line: &SealLine) -> Result<String, AllocError>
+// The header, and a line under it.
+pub(crate) fn under_header(heap: Global, line: &SealLine) -> Result<String, AllocError>
     ensures { λ r. ⌜ made r (λ s. string-bytes s ≡ underHeader (lineBytes (now (line .entry)))) ⌝ }
 {
     format!(heap, "bits blocks operations tag\n{line}\n")
 }
 
 // The line for a message under a key.
-fn line_under(heap: Global, key: &[u8], message: &[u8]) -> Result<SealLine, AllocError>
-    ensures { λ r. ⌜ made r (λ line. lineBytes line ≡ sealUnder arith64 (engineOf (now (key .entry)) 1000000) (now (message .entry))) ⌝ }
+fn line_by(heap: Global, cipher: Cipher, key: &[u8], message: &[u8]) -> Result<SealLine, AllocError>
+    ensures { λ r. ⌜ made r (λ line. lineBytes line ≡ sealBy cipher (now (key .entry)) (now (message .entry))) ⌝ }
+{
+    match cipher {
+        Cipher::Aes => aes_line(heap, key, message),
+        Cipher::Xtea => xtea_line(heap, key, message),
+    }
+}
+
+fn aes_line(heap: Global, key: &[u8], message: &[u8]) -> Result<SealLine, AllocError>
+    ensures { λ r. ⌜ made r (λ line. lineBytes line ≡ sealUnder arith128 (aesOf 4 (now (key .entry)) 1000000) (now (message .entry))) ⌝ }
+{
+    match Aes128::new(key, ALLOWANCE) {
+        Ok(mut engine) => seal_line(heap, &mut engine, message),
+        Err(fault) => Ok(SealLine::refusal(fault)),
+    }
+}
+
+fn xtea_line(heap: Global, key: &[u8], message: &[u8]) -> Result<SealLine, AllocError>
+    ensures { λ r. ⌜ made r (λ line. lineBytes line ≡ sealUnder arith64 (xteaOf (now (key .entry)) 1000000) (now (message .entry))) ⌝ }
 {
     match Xtea::new(key, ALLOWANCE) {
         Ok(mut engine) => seal_line(heap, &mut engine, message),
-        Err(fault) => Ok(SealLine::Refusal {
-            number: fault.number(),
-        }),
+        Err(fault) => Ok(SealLine::refusal(fault)),
     }
 }
 
