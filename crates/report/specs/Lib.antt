@@ -2,3 +2,4 @@ pub mod Hex
 pub mod Seal
 pub mod Shown
 pub mod Arguments
+pub mod Vector

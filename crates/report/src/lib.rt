@@ -3,6 +3,7 @@ mod arguments;
 mod cipher;
 mod digits;
 mod seal;
+mod vector;
 
 pub use arguments::engine_names;
 pub use arguments::seal_input;
@@ -13,3 +14,5 @@ pub use digits::hex;
 pub use seal::SealLine;
 pub use seal::SealLineDisplay;
 pub use seal::seal_text;
+pub use vector::Kind;
+pub use vector::vector_answer;

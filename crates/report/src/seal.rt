@@ -33,7 +33,7 @@ use xtea::Xtea;
 use xtea::XteaEngine;
 
 // The operations that a program's engine is made with.
-const ALLOWANCE: u32 = 1_000_000;
+pub(crate) const ALLOWANCE: u32 = 1_000_000;
 
 // What sealing an overlay came to.
 #[derive(Drop)]
@@ -161,7 +161,7 @@ fn sealed<E: Engine>(engine: &mut E, message: &[u8]) -> Result<FullTag<E::Block>
 }
 
 // A block's bytes as hex.
-fn tag_hex<B: Block>(heap: Global, tag: B) -> Result<String, AllocError>
+pub(crate) fn tag_hex<B: Block>(heap: Global, tag: B) -> Result<String, AllocError>
     ensures { λ r. ⌜ made r (λ s. string-bytes s ≡ hexOf (toBytes (B·Block .arith) tag)) ⌝ }
 {
     let size = B::size();
