@@ -30,7 +30,14 @@ pub enum Kind {
 }
 
 // The answer in hex, or none where the key or the message is refused.
-pub fn vector_answer(heap: Global, kind: Kind, cipher: Cipher, key: &[u8], bits: usize, message: &[u8]) -> Result<Option<String>, AllocError>
+pub fn vector_answer(
+    heap: Global,
+    kind: Kind,
+    cipher: Cipher,
+    key: &[u8],
+    bits: usize,
+    message: &[u8],
+) -> Result<Option<String>, AllocError>
     ensures { λ r. ⌜ made r (λ o. textOf o ≡ vectorOf kind cipher (now (key .entry)) bits (now (message .entry))) ⌝ }
 {
     match cipher {
@@ -39,7 +46,13 @@ pub fn vector_answer(heap: Global, kind: Kind, cipher: Cipher, key: &[u8], bits:
     }
 }
 
-fn by_aes(heap: Global, kind: Kind, key: &[u8], bits: usize, message: &[u8]) -> Result<Option<String>, AllocError>
+fn by_aes(
+    heap: Global,
+    kind: Kind,
+    key: &[u8],
+    bits: usize,
+    message: &[u8],
+) -> Result<Option<String>, AllocError>
     ensures { λ r. ⌜ made r (λ o. textOf o ≡ answerUnder arith128 kind (aesOf 4 (now (key .entry)) 1000000) bits (now (message .entry))) ⌝ }
 {
     match Aes128::new(key, ALLOWANCE) {
@@ -48,7 +61,13 @@ fn by_aes(heap: Global, kind: Kind, key: &[u8], bits: usize, message: &[u8]) -> 
     }
 }
 
-fn by_xtea(heap: Global, kind: Kind, key: &[u8], bits: usize, message: &[u8]) -> Result<Option<String>, AllocError>
+fn by_xtea(
+    heap: Global,
+    kind: Kind,
+    key: &[u8],
+    bits: usize,
+    message: &[u8],
+) -> Result<Option<String>, AllocError>
     ensures { λ r. ⌜ made r (λ o. textOf o ≡ answerUnder arith64 kind (xteaOf (now (key .entry)) 1000000) bits (now (message .entry))) ⌝ }
 {
     match Xtea::new(key, ALLOWANCE) {
@@ -57,7 +76,13 @@ fn by_xtea(heap: Global, kind: Kind, key: &[u8], bits: usize, message: &[u8]) ->
     }
 }
 
-fn answer<E: Engine>(heap: Global, engine: &mut E, kind: Kind, bits: usize, message: &[u8]) -> Result<Option<String>, AllocError>
+fn answer<E: Engine>(
+    heap: Global,
+    engine: &mut E,
+    kind: Kind,
+    bits: usize,
+    message: &[u8],
+) -> Result<Option<String>, AllocError>
     ensures { λ r. ⌜ made r (λ o. textOf o ≡ answerOf (Block·Block .arith) kind (E·Engine .means (now (engine .entry))) bits (now (message .entry))) ⌝ }
 {
     match kind {
@@ -67,7 +92,12 @@ fn answer<E: Engine>(heap: Global, engine: &mut E, kind: Kind, bits: usize, mess
     }
 }
 
-fn tag_answer<E: Engine>(heap: Global, engine: &mut E, bits: usize, message: &[u8]) -> Result<Option<String>, AllocError>
+fn tag_answer<E: Engine>(
+    heap: Global,
+    engine: &mut E,
+    bits: usize,
+    message: &[u8],
+) -> Result<Option<String>, AllocError>
     ensures { λ r. ⌜ made r (λ o. textOf o ≡ tagText (Block·Block .arith) (fullTag (Block·Block .arith) (E·Engine .means (now (engine .entry))) (now (message .entry)) bits)) ⌝ }
 {
     match pmac::full_tag(engine, message, bits) {
@@ -76,7 +106,11 @@ fn tag_answer<E: Engine>(heap: Global, engine: &mut E, bits: usize, message: &[u
     }
 }
 
-fn block_answer<E: Engine>(heap: Global, engine: &mut E, message: &[u8]) -> Result<Option<String>, AllocError>
+fn block_answer<E: Engine>(
+    heap: Global,
+    engine: &mut E,
+    message: &[u8],
+) -> Result<Option<String>, AllocError>
     requires { ⌜ length (now message) ≡ Block·Block .arith .size ⌝ }
     ensures { λ r. ⌜ made r (λ o. textOf o ≡ blockText (Block·Block .arith) (answered (E·Engine .means (now (engine .entry)) .left) (E·Engine .means (now (engine .entry)) .enc (fromBytes (Block·Block .arith) (now (message .entry)))))) ⌝ }
 {
