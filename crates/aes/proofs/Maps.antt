@@ -3,10 +3,9 @@ use mathlib.Core.Path.{_≡_, refl, sym, ap, subst, _∙_}
 use mathlib.Core.List.{List, [], _∷_, map}
 use Prim.Native.Nat.{ℕ, zero, suc, _<_}
 use native.Mathlib.Omega.{arith}
-use lib.ListN.{length, getD}
-use Rattle.block.specs.Arith.{fromBytes, toBytes, BytesReadBack}
+use lib.ListN.{getD}
+use Rattle.block.specs.Arith.{fromBytes, toBytes}
 use Rattle.block.specs.Blocks.{make128, arith128}
-use Rattle.block.specs.Bits.{number, bitsOf}
 use Rattle.block.specs.Width.{valueOf, digits}
 use Rattle.block.specs.declared.block128.Block128.{Block128}
 use Rattle.block.proofs.Numbers.{value-bits, bytes-bits}

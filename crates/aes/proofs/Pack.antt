@@ -1,5 +1,5 @@
 -- Words of 32 bits as columns. Assumes nothing.
-use mathlib.Core.Path.{_≡_, refl, sym, ap, ap₂, _∙_}
+use mathlib.Core.Path.{_≡_, sym, ap, ap₂, _∙_}
 use Prim.Native.Nat.{ℕ, _+_, _*_, _/_, _%_, _^_, _<_}
 use native.Mathlib.Omega.{arith}
 use lib.Bits.{bitXor, xor-shr, xor-mod, xor-zero-r, xor-assoc, xor-comm}
@@ -7,8 +7,8 @@ use Rattle.std.proofs.shelf.Bits.{shr-shr, field-of}
 use Rattle.block.specs.Width.{valueOf, digits}
 use Rattle.block.proofs.Width.{xors}
 use Rattle.aes.specs.Field.{times}
-use Rattle.aes.specs.State.{Column, State, column, columns, state, bytesIn, Bytes, Fit}
-use Rattle.aes.specs.Cipher.{row, matrix, plus, addRoundKey}
+use Rattle.aes.specs.State.{Column, column, columns, state, bytesIn, Bytes, Fit}
+use Rattle.aes.specs.Cipher.{matrix, plus, addRoundKey}
 use Rattle.aes.specs.Words.{packed, unpacked, stateOf, four, brought0, brought1, swapped, mixedWord, plainWord}
 use Rattle.aes.specs.declared.words.Words.{Words}
 use Rattle.aes.proofs.Field.{product-lt}
