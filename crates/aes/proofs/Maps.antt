@@ -59,9 +59,6 @@ on-block f fits x r v er ev =
 
 -- ---- undone
 
-state-bytes : (v : ℕ) → bytesIn (state (digits 16 v)) ≡ digits 16 v
-state-bytes v = refl
-
 undone : (f g : State → State) → ((y : State) → Fit y → Fit (g y)) → ((y : State) → Fit y → f (g y) ≡ y) → (x : Block128) → onBlock f (onBlock g x) ≡ x
 unfolding onBlock
 undone f g fits u x =
