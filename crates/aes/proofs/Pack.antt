@@ -164,7 +164,6 @@ module _ (p q r s : ℕ) (f t0 t1 : ℕ → ℕ) (fits : (x : ℕ) → x < 256 �
 
   pub mixed-column : (w x y z k : ℕ)
       → unpacked (mixedWord t0 t1 w x y z k) ≡ plus (matrix p q r s (column (f (unpacked w .s0)) (f (unpacked x .s1)) (f (unpacked y .s2)) (f (unpacked z .s3)))) (unpacked k)
-  unfolding mixedWord
   mixed-column w x y z k =
       let a = t0 (unpacked w .s0) in
       let b = t1 (unpacked x .s1) in
@@ -180,7 +179,6 @@ module _ (p q r s : ℕ) (f t0 t1 : ℕ → ℕ) (fits : (x : ℕ) → x < 256 �
 module _ (f : ℕ → ℕ) (fits : (x : ℕ) → x < 256 → f x < 256) where
   pub plain-column : (w x y z k : ℕ)
       → unpacked (plainWord f w x y z k) ≡ plus (column (f (unpacked w .s0)) (f (unpacked x .s1)) (f (unpacked y .s2)) (f (unpacked z .s3))) (unpacked k)
-  unfolding plainWord
   plain-column w x y z k =
       let j = column (f (unpacked w .s0)) (f (unpacked x .s1)) (f (unpacked y .s2)) (f (unpacked z .s3)) in
       unpacked-xor (packed j) k
