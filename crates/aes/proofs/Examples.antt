@@ -1,5 +1,5 @@
 -- The examples of FIPS 197, computed. Assumes nothing.
-use mathlib.Core.Path.{_≡_, refl}
+use mathlib.Core.Path.{refl}
 use Rattle.block.specs.Bits.{bits, number, bitsOf, bytesOf}
 use Rattle.aes.specs.Field.{xtime, powers, inverse}
 use Rattle.aes.specs.SBox.{sBox, invSBox, affine, invAffine}

@@ -12,7 +12,7 @@ use lib.ListN.{length, getD, take, set}
 use Rattle.std.proofs.shelf.Bits.{shr-shr, field-of}
 use Rattle.std.proofs.shelf.Lists.{getD-take, take-more-set, map-append}
 use Rattle.aes.specs.SBox.{sBox, invSBox}
-use Rattle.aes.specs.State.{Column, column, columns, State, each, listed, wordAt, Bytes}
+use Rattle.aes.specs.State.{Column, column, columns, State, each, listed, wordAt}
 use Rattle.aes.specs.Cipher.{plus, invMixColumn, Keys}
 use Rattle.aes.specs.Schedule.{subWord, rotWord, power, rcon, none, taken, expansion, roundKey, keysOf, keyWords, keySchedule}
 use Rattle.aes.specs.Words.{packed, unpacked, stateOf, four, unmixing0, unmixing1, mixedWord, plainWord, unmixedWord}

@@ -1,5 +1,5 @@
 -- The field: ⊕, and products as linear maps. Assumes nothing.
-use mathlib.Core.Path.{_≡_, refl, sym, ap, ap₂, _∙_}
+use mathlib.Core.Path.{_≡_, refl, ap, ap₂, _∙_}
 use Prim.Native.Nat.{ℕ, zero, suc, _/_, _%_, _<_, min}
 use native.Mathlib.Omega.{arith}
 use lib.Bits.{bitXor, xor-lt, xor-assoc, xor-comm, xor-self, xor-zero-r}

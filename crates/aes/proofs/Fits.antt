@@ -1,8 +1,7 @@
 -- Each step keeps bytes bytes. Assumes nothing.
-use mathlib.Core.Path.{_≡_}
 use mathlib.Core.List.{List, [], _∷_}
 use Prim.Native.Nat.{ℕ, _<_}
-use lib.Bits.{bitXor, xor-lt}
+use lib.Bits.{xor-lt}
 use Rattle.aes.specs.Field.{times}
 use Rattle.aes.specs.SBox.{sBox, invSBox}
 use Rattle.aes.specs.State.{Column, State, each, every, Bytes, Fit, AllFit}

@@ -3,10 +3,9 @@ use mathlib.Core.Path.{_≡_, refl, sym, ap, subst, _∙_}
 use mathlib.Core.List.{List, [], _∷_, map}
 use Prim.Native.Nat.{ℕ, zero, suc, _<_}
 use native.Mathlib.Omega.{arith}
-use lib.ListN.{length, getD}
-use Rattle.block.specs.Arith.{fromBytes, toBytes, BytesReadBack}
+use lib.ListN.{getD}
+use Rattle.block.specs.Arith.{fromBytes, toBytes}
 use Rattle.block.specs.Blocks.{make128, arith128}
-use Rattle.block.specs.Bits.{number, bitsOf}
 use Rattle.block.specs.Width.{valueOf, digits}
 use Rattle.block.specs.declared.block128.Block128.{Block128}
 use Rattle.block.proofs.Numbers.{value-bits, bytes-bits}
@@ -59,9 +58,6 @@ on-block f fits x r v er ev =
     er ∙ ap make128 ev ∙ sym (to-number (f y) (fits y (digits-fit (x .value)))) ∙ ap (λ l. fromBytes arith128 (bytesIn (f (state l)))) (sym (from-number x))
 
 -- ---- undone
-
-state-bytes : (v : ℕ) → bytesIn (state (digits 16 v)) ≡ digits 16 v
-state-bytes v = refl
 
 undone : (f g : State → State) → ((y : State) → Fit y → Fit (g y)) → ((y : State) → Fit y → f (g y) ≡ y) → (x : Block128) → onBlock f (onBlock g x) ≡ x
 unfolding onBlock

@@ -1,5 +1,5 @@
 -- MixColumns is linear, and undone by InvMixColumns, and the reverse. Assumes nothing.
-use mathlib.Core.Path.{_≡_, refl, sym, ap, ap₂, _∙_}
+use mathlib.Core.Path.{_≡_, ap, ap₂, _∙_}
 use Prim.Native.Nat.{ℕ}
 use lib.Bits.{bitXor, xor-assoc, xor-comm}
 use Rattle.block.proofs.Width.{xors, xor-left-comm}

@@ -1,5 +1,5 @@
 -- Words of 32 bits as columns. Assumes nothing.
-use mathlib.Core.Path.{_≡_, refl, sym, ap, ap₂, _∙_}
+use mathlib.Core.Path.{_≡_, sym, ap, ap₂, _∙_}
 use Prim.Native.Nat.{ℕ, _+_, _*_, _/_, _%_, _^_, _<_}
 use native.Mathlib.Omega.{arith}
 use lib.Bits.{bitXor, xor-shr, xor-mod, xor-zero-r, xor-assoc, xor-comm}
@@ -7,8 +7,8 @@ use Rattle.std.proofs.shelf.Bits.{shr-shr, field-of}
 use Rattle.block.specs.Width.{valueOf, digits}
 use Rattle.block.proofs.Width.{xors}
 use Rattle.aes.specs.Field.{times}
-use Rattle.aes.specs.State.{Column, State, column, columns, state, bytesIn, Bytes, Fit}
-use Rattle.aes.specs.Cipher.{row, matrix, plus, addRoundKey}
+use Rattle.aes.specs.State.{Column, column, columns, state, bytesIn, Bytes, Fit}
+use Rattle.aes.specs.Cipher.{matrix, plus, addRoundKey}
 use Rattle.aes.specs.Words.{packed, unpacked, stateOf, four, brought0, brought1, swapped, mixedWord, plainWord}
 use Rattle.aes.specs.declared.words.Words.{Words}
 use Rattle.aes.proofs.Field.{product-lt}
@@ -164,7 +164,6 @@ module _ (p q r s : ℕ) (f t0 t1 : ℕ → ℕ) (fits : (x : ℕ) → x < 256 �
 
   pub mixed-column : (w x y z k : ℕ)
       → unpacked (mixedWord t0 t1 w x y z k) ≡ plus (matrix p q r s (column (f (unpacked w .s0)) (f (unpacked x .s1)) (f (unpacked y .s2)) (f (unpacked z .s3)))) (unpacked k)
-  unfolding mixedWord
   mixed-column w x y z k =
       let a = t0 (unpacked w .s0) in
       let b = t1 (unpacked x .s1) in
@@ -180,7 +179,6 @@ module _ (p q r s : ℕ) (f t0 t1 : ℕ → ℕ) (fits : (x : ℕ) → x < 256 �
 module _ (f : ℕ → ℕ) (fits : (x : ℕ) → x < 256 → f x < 256) where
   pub plain-column : (w x y z k : ℕ)
       → unpacked (plainWord f w x y z k) ≡ plus (column (f (unpacked w .s0)) (f (unpacked x .s1)) (f (unpacked y .s2)) (f (unpacked z .s3))) (unpacked k)
-  unfolding plainWord
   plain-column w x y z k =
       let j = column (f (unpacked w .s0)) (f (unpacked x .s1)) (f (unpacked y .s2)) (f (unpacked z .s3)) in
       unpacked-xor (packed j) k

@@ -1,5 +1,5 @@
 -- The two S-boxes undo each other, and give bytes. Assumes nothing.
-use mathlib.Core.Path.{_≡_, refl}
+use mathlib.Core.Path.{refl}
 use Prim.Native.Nat.{ℕ, _/_, _<_}
 use native.Mathlib.Omega.{arith}
 use Rattle.aes.specs.Field.{xtime, powers, inverse}

@@ -1,7 +1,7 @@
 -- The code's rounds are the standard's. Assumes nothing.
 use mathlib.Core.Path.{_≡_, refl, sym, ap, ap₂, _∙_}
 use mathlib.Core.List.{List, [], _∷_, _++_, map}
-use Prim.Native.Nat.{ℕ, suc, _+_, _<_}
+use Prim.Native.Nat.{ℕ, _+_, _<_}
 use native.Mathlib.Numerals.{add-one}
 use lib.ListN.{length, getD, take, drop}
 use lib.Seq.{drop-cons}
@@ -9,7 +9,7 @@ use Rattle.std.proofs.shelf.Lists.{take-more}
 use Rattle.aes.specs.SBox.{sBox, invSBox}
 use Rattle.aes.specs.State.{Column, State, column, columns, each, every}
 use Rattle.aes.specs.Cipher.{mixColumn, mixColumns, plus, shiftRows, invMixColumn, invMixColumns, addRoundKey, invSubBytes, invShiftRows, wholeRound, lastRound, rounds, invWholeRound, invLastRound, invRounds}
-use Rattle.aes.specs.Words.{unpacked, stateOf, four, mixing0, mixing1, unmixing0, unmixing1, mixedWord, plainWord, shifted, invShifted, unmixedWord, Unmixes}
+use Rattle.aes.specs.Words.{unpacked, stateOf, mixing0, mixing1, unmixing0, unmixing1, mixedWord, plainWord, shifted, invShifted, unmixedWord, Unmixes}
 use Rattle.aes.specs.Keyed.{keyOf}
 use Rattle.aes.specs.declared.key.RoundKey.{RoundKey}
 use Rattle.aes.specs.declared.words.Words.{Words}

@@ -1,14 +1,14 @@
 -- Each step of a round is undone, and so are the rounds over any keys. Assumes nothing.
-use mathlib.Core.Path.{_≡_, refl, sym, ap, ap₂, _∙_}
+use mathlib.Core.Path.{_≡_, refl, ap, _∙_}
 use mathlib.Core.List.{List, [], _∷_}
 use Prim.Native.Nat.{ℕ, _<_}
 use Rattle.aes.specs.SBox.{sBox, invSBox}
 use Rattle.aes.specs.State.{Column, State, column, columns, each, every, Bytes, Fit, AllFit}
-use Rattle.aes.specs.Cipher.{subBytes, shiftRows, mixColumns, plus, addRoundKey, invSubBytes, invShiftRows, invMixColumns, wholeRound, lastRound, rounds, Keys, cipher, invWholeRound, invLastRound, invRounds, invCipher, StepsUndo, FitKeys, RoundsUndo}
+use Rattle.aes.specs.Cipher.{subBytes, shiftRows, mixColumns, plus, addRoundKey, invSubBytes, invShiftRows, invMixColumns, wholeRound, lastRound, rounds, cipher, invWholeRound, invLastRound, invRounds, invCipher, StepsUndo, RoundsUndo}
 use Rattle.aes.proofs.Field.{xor-undo}
 use Rattle.aes.proofs.Substitution.{boxes-undo}
 use Rattle.aes.proofs.Mixing.{inv-mix, mix-inv}
-use Rattle.aes.proofs.Fits.{inv-shift-fit, add-fit, unstirred-fit, round-fit, rounds-fit, inv-rounds-fit}
+use Rattle.aes.proofs.Fits.{inv-shift-fit, add-fit, round-fit, inv-rounds-fit}
 
 -- ---- the steps
 

@@ -46,12 +46,12 @@ abbrev pub swapped : ℕ → ℕ
 swapped w = w % 2 ^ 16 * 2 ^ 16 + w / 2 ^ 16 % 2 ^ 16
 
 -- a column from row 0 of the word w, row 1 of x, row 2 of y and row 3 of z, by the two parts of a table, with the key k
-unfoldable pub mixedWord : (ℕ → ℕ) → (ℕ → ℕ) → ℕ → ℕ → ℕ → ℕ → ℕ → ℕ
+abbrev pub mixedWord : (ℕ → ℕ) → (ℕ → ℕ) → ℕ → ℕ → ℕ → ℕ → ℕ → ℕ
 mixedWord t0 t1 w x y z k =
     bitXor (bitXor (bitXor (t0 (unpacked w .s0)) (t1 (unpacked x .s1))) (swapped (bitXor (t0 (unpacked y .s2)) (t1 (unpacked z .s3))))) k
 
 -- the same by a table of bytes, with nothing mixed
-unfoldable pub plainWord : (ℕ → ℕ) → ℕ → ℕ → ℕ → ℕ → ℕ → ℕ
+abbrev pub plainWord : (ℕ → ℕ) → ℕ → ℕ → ℕ → ℕ → ℕ → ℕ
 plainWord f w x y z k = bitXor (packed (column (f (unpacked w .s0)) (f (unpacked x .s1)) (f (unpacked y .s2)) (f (unpacked z .s3)))) k
 
 -- the four columns of the next state, each by m: the choice of words is ShiftRows, and InvShiftRows

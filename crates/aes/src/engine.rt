@@ -1,7 +1,5 @@
 // The AES-128 engine.
 ghost use mathlib.Core.Path.{_≡_};
-ghost use Prim.Native.Nat.{_-_};
-ghost use Rattle.engine.specs.Meaning.{answered};
 ghost use Rattle.aes.specs.Maps.{aes};
 ghost use Rattle.aes.specs.Engine.{meaning, madeAs};
 use crate::keys::RoundKeys;
