@@ -96,8 +96,8 @@ fn seal_line<E: Engine>(
                 tag,
             })
         }
-        Err(fault) => Ok(SealLine::Refusal {
-            number: fault.number(),
+        Err(refused) => Ok(SealLine::Refusal {
+            number: refused.number(),
         }),
     }
 }
