@@ -1,5 +1,7 @@
 // The accounts into which slips are booked.
+ghost use mathlib.Core.Bool.{true};
 ghost use mathlib.Core.Path.{_≡_};
+ghost use Rattle.std.specs.Results.{isOk};
 ghost use Rattle.overlay.specs.Ledger.{opened, held, takes, entered, book as bookOf};
 ghost use Rattle.overlay.specs.Views.{booked};
 use crate::BookingFault;
@@ -68,7 +70,8 @@ impl Ledger {
 
     // Moves a slip's number into an account, and leaves the slip at zero.
     pub fn book(&mut self, slip: &mut Slip, account: u8) -> Result<(), BookingFault>
-        ensures { λ r. ⌜ booked r (now (self .exit) .accounts) (now (slip .exit) .count) ≡ bookOf (now (self .entry) .accounts) (now (slip .entry) .count) account ⌝ }
+        ensures after { λ r. ⌜ booked r (now (self .exit) .accounts) (now (slip .exit) .count) ≡ bookOf (now (self .entry) .accounts) (now (slip .entry) .count) account ⌝ }
+        ensures emptied { λ r. ⌜ (isOk r ≡ true → now (slip .exit) .count ≡ 0) ⌝ }
     {
         if account > 15 {
             return Err(BookingFault::NoAccount);

@@ -11,6 +11,7 @@ pub use arguments::seal_key;
 pub use cipher::Cipher;
 pub use cipher::cipher_named;
 pub use digits::hex;
+pub use digits::unhex;
 pub use seal::SealLine;
 pub use seal::SealLineDisplay;
 pub use seal::seal_text;

@@ -4,6 +4,7 @@
 use report::Cipher;
 use report::Kind;
 use report::cipher_named;
+use report::unhex;
 use report::vector_answer;
 use std::alloc::AllocError;
 use std::alloc::Global;
@@ -106,27 +107,23 @@ fn row_of(line: &str) -> Option<Row> {
     })
 }
 
-// The bytes that a text of hex digits spells, as many as it has pairs of digits; '-' spells none.
-fn bytes_of(heap: Global, text: &str) -> Result<Vec<u8>, AllocError> {
-    let mut bytes = Vec::new(heap);
-    let mut high = None;
-    for c in text.chars() {
-        match (high, keys::digit_of(c)) {
-            (None, digit) => high = digit,
-            (Some(first), Some(low)) => {
-                bytes.push(u8::wrapping_mul(first, 16).wrapping_add(low))?;
-                high = None;
-            }
-            (Some(_), None) => {}
-        }
+// The bytes of a field; '-' stands for none.
+fn bytes_of(heap: Global, field: &str) -> Result<Option<Vec<u8>>, AllocError> {
+    if field == "-" {
+        unhex(heap, "")
+    } else {
+        unhex(heap, field)
     }
-    Ok(bytes)
 }
 
 // Whether a row's answer is the expected one.
 fn matches(heap: Global, row: &Row) -> Result<bool, AllocError> {
-    let key = bytes_of(heap, row.key)?;
-    let message = bytes_of(heap, row.message)?;
+    let Some(key) = bytes_of(heap, row.key)? else {
+        return Ok(false);
+    };
+    let Some(message) = bytes_of(heap, row.message)? else {
+        return Ok(false);
+    };
     match vector_answer(heap, row.kind, row.cipher, &key, row.bits, &message)? {
         Some(answer) => Ok(answer.as_str() == row.expected),
         None => Ok(false),
