@@ -6,6 +6,7 @@ use engine::Engine;
 
 // What is kept of an overlay between calls: the engine, the bits standing, L, and the sum of Y over the blocks
 // before the last. The memory is handed to each call.
+#[derive(Drop)]
 pub struct Open<E: Engine> {
     pub(crate) engine: E,
     pub(crate) bits: u32,
@@ -30,6 +31,7 @@ impl<E: Engine> Open<E> {
 }
 
 // Why no overlay was opened, and the engine handed back.
+#[derive(Drop)]
 pub struct Refused<E: Engine> {
     pub fault: OverlayFault,
     pub engine: E,
