@@ -1,5 +1,6 @@
 pub mod Hex
 pub mod Seal
+pub mod Calls
 pub mod Shown
 pub mod Arguments
 pub mod Vector
