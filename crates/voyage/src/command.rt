@@ -2,7 +2,7 @@
 
 // What a line asks for.
 #[derive(Clone, Copy)]
-pub enum Command<'a> {
+pub(crate) enum Command<'a> {
     // `add HEX [BITS]`
     Add {
         hex: &'a str,
@@ -30,7 +30,7 @@ pub enum Command<'a> {
 }
 
 // The command in a line; none where a word is missing, is too much or is not what it should be.
-pub fn command_of(line: &str) -> Option<Command<'_>> {
+pub(crate) fn command_of(line: &str) -> Option<Command<'_>> {
     let mut words = line.split_whitespace();
     let name = words.next()?;
     let first = words.next()?;

@@ -1,5 +1,6 @@
 // The overlay of one voyage, with its memory, the accounts and the slips that its calls gave.
 ghost use mathlib.Core.Path.{_≡_};
+ghost use Rattle.std.specs.Of.Vec.{vec-len};
 use crate::command::Command;
 use aes::Aes128;
 use aes::Aes128Engine;
@@ -18,7 +19,7 @@ use std::alloc::Refused;
 // The account that slips left open are booked to at the end.
 const LAST_ACCOUNT: u8 = 15;
 
-pub struct Desk {
+pub(crate) struct Desk {
     overlay: Open<Aes128>,
     memory: Vec<u8>,
     ledger: Ledger,
@@ -27,7 +28,7 @@ pub struct Desk {
 
 impl Desk {
     // An overlay just opened, and the slip that it came with.
-    pub fn new(heap: Global, overlay: Open<Aes128>, memory: Vec<u8>, slip: Slip) -> Self {
+    pub(crate) fn new(heap: Global, overlay: Open<Aes128>, memory: Vec<u8>, slip: Slip) -> Self {
         let mut desk = Desk {
             overlay,
             memory,
@@ -39,7 +40,7 @@ impl Desk {
     }
 
     // Runs one command, and gives what is shown of it; none where it names a slip or bits that are not there.
-    pub fn run(
+    pub(crate) fn run(
         &mut self,
         heap: Global,
         command: Command<'_>,
@@ -153,7 +154,7 @@ impl Desk {
     }
 
     // The slips that still show operations, a line each.
-    pub fn open_slips(&self, heap: Global) -> Result<String, AllocError> {
+    pub(crate) fn open_slips(&self, heap: Global) -> Result<String, AllocError> {
         let mut text = String::new(heap);
         for i in 0..self.slips.len() {
             let shows = self.slips[i].shows();
@@ -168,14 +169,16 @@ impl Desk {
     }
 
     // Books every slip to the last account.
-    pub fn settle_all(&mut self) {
+    pub(crate) fn settle_all(&mut self)
+        ensures { λ _. ⌜ vec-len (now (self .exit) .slips) ≡ 0 ⌝ }
+    {
         while let Some(slip) = self.slips.pop() {
             settle(&mut self.ledger, slip);
         }
     }
 
     // The totals of all accounts, their sum, and what is left.
-    pub fn balance(&self, heap: Global) -> Result<String, AllocError> {
+    pub(crate) fn balance(&self, heap: Global) -> Result<String, AllocError> {
         let mut text = String::from_str(heap, "totals")?;
         let mut booked: u64 = 0;
         for number in 0..16u8 {
@@ -189,7 +192,7 @@ impl Desk {
         format!(heap, "{text}\nbooked {booked}, left {left}\n")
     }
 
-    pub fn end(self) {
+    pub(crate) fn end(self) {
         let Desk {
             overlay: _,
             memory: _,
@@ -212,7 +215,7 @@ fn count_of(bits: Option<u32>, edit: &Vec<u8>) -> u32 {
 }
 
 // Ends a slip: its operations go to the last account.
-pub fn settle(ledger: &mut Ledger, slip: Slip) {
+pub(crate) fn settle(ledger: &mut Ledger, slip: Slip) {
     let mut slip = slip;
     match ledger.book(&mut slip, LAST_ACCOUNT) {
         Ok(()) => {}
