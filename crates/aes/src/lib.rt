@@ -1,4 +1,6 @@
 // AES-128 to FIPS 197, both ways, as an engine.
+#![tactic(auto)]
+
 mod boxes;
 mod cipher;
 mod columns;

@@ -1,4 +1,6 @@
 // What `bench/` times, for C to call: sums of enciphered and of deciphered blocks, full tags, and the calls of an overlay.
+#![tactic(auto)]
+
 mod calls;
 mod sums;
 mod tags;

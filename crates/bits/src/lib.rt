@@ -1,4 +1,6 @@
 // Bits in a memory of bytes, read in blocks: position 0 first, the highest bit of a byte first.
+#![tactic(auto)]
+
 mod write;
 
 ghost use Rattle.std.specs.Prelude.{◌≡◌, ℕ, ◌+◌, ◌-◌, ◌*◌, ◌<◌, ◌≤◌, true, false, not, ◌∷◌, ◌++◌, length, take, replicate};

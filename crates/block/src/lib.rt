@@ -1,4 +1,6 @@
 // Blocks of 64 and of 128 bits: ⊕, doubling, halving, and their bytes.
+#![tactic(auto)]
+
 mod block128;
 mod block64;
 mod width128;

@@ -1,4 +1,6 @@
 // Edit books: records of edits in slots of 32 bytes, read and written.
+#![tactic(auto)]
+
 mod edit;
 mod fault;
 mod reading;

@@ -1,4 +1,6 @@
 // What an engine means, layers over engines, and the complement engine.
+#![tactic(auto)]
+
 mod allowance;
 mod cap;
 mod cascade;

@@ -1,4 +1,6 @@
 // Histories: any list of calls on one overlay, against the plain reckoning of its bits, operations, totals and slips.
+#![tactic(auto)]
+
 mod answer;
 mod call;
 mod calls;

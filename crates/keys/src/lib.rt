@@ -1,4 +1,6 @@
 // Keys as they are typed in: hexadecimal digits one by one, two to a byte, the high half first.
+#![tactic(auto)]
+
 mod digit;
 mod entry;
 mod fault;

@@ -1,4 +1,6 @@
 // Overlays, received and open, and the slips and accounts for what their calls ask of the engine.
+#![tactic(auto)]
+
 mod calls;
 mod fault;
 mod judge;

@@ -1,4 +1,6 @@
 // PMAC of the bits in a memory, over any engine.
+#![tactic(auto)]
+
 mod fault;
 mod lost;
 mod offset;

@@ -1,4 +1,6 @@
 // What the programs print, as text that is proved.
+#![tactic(auto)]
+
 mod arguments;
 mod cipher;
 mod digits;

@@ -1,5 +1,7 @@
 // Seals one overlay: `seal ENGINE` reads a key of 16 bytes and then the overlay from standard input,
 // `seal ENGINE --key HEX` the overlay alone.
+#![tactic(auto)]
+
 use std::alloc::{AllocError, Global};
 use std::env;
 use std::io::Read;

@@ -1,6 +1,8 @@
 // Runs a table of test vectors from standard input: a row each of kind, engine, key, bits, message and expected answer.
 // Prints how many of each kind matched, how many rows could not be read, and the first row that did not match.
 // A line that begins with '#' is a comment.
+#![tactic(auto)]
+
 use report::{Cipher, Kind, cipher_named, unhex, vector_answer};
 use std::alloc::{AllocError, Global};
 use std::fmt;

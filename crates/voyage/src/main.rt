@@ -1,5 +1,7 @@
 // Runs the calls of one voyage over an overlay under AES-128, and shows that operations, slips and accounts balance.
 // Standard input is text: a line `key` with 32 hex digits, then a call a line.
+#![tactic(auto)]
+
 mod command;
 mod desk;
 

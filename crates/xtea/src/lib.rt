@@ -1,4 +1,6 @@
 // XTEA, the block cipher of Needham and Wheeler, as an engine on blocks of 64 bits.
+#![tactic(auto)]
+
 mod cycles;
 
 ghost use Rattle.std.specs.Prelude.{◌≡◌, ◌+◌, ◌≤◌, length};
