@@ -8,9 +8,9 @@ use Rattle.bench.specs.Sums.{folded}
 use Rattle.bench.proofs.Kept.{tag_read}
 use Rattle.bench.proofs.bench_aes128_calls.Goals as goal
 
-pub returns-then-tag-by-calls : goal.returns-then-tag-by-calls
-returns-then-tag-by-calls c =
+pub returns-then-tag_by_calls : goal.returns-then-tag_by_calls
+returns-then-tag_by_calls c =
     let made = sym (ap made_as c.in-Ok.is) ∙ c.new.ensures in
-    let x = full arith128 (meaning c.in-Ok.engine).enc (standing (8 * length c.args.message.now) c.tag-by-calls.new.memory) in
-    let tag = c.read.ensures ∙ tag_read _ x c.tag-by-calls.new.tag refl (c.tag-by-calls.ensures c.if-tag-by-calls.true) in
-    inr (c.fold.ensures ∙ ap folded tag ∙ ap (λ m. standing128 m c.tag-by-calls.new.memory (8 * length c.args.message.now)) made)
+    let x = full arith128 (meaning c.in-Ok.engine).enc (standing (8 * length c.args.message.now) c.tag_by_calls.new.memory) in
+    let tag = c.read.ensures ∙ tag_read _ x c.tag_by_calls.new.tag refl (c.tag_by_calls.ensures c.if-tag_by_calls.true) in
+    inr (c.fold.ensures ∙ ap folded tag ∙ ap (λ m. standing128 m c.tag_by_calls.new.memory (8 * length c.args.message.now)) made)

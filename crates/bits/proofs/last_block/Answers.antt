@@ -4,12 +4,12 @@ use Rattle.bits.proofs.last_block.Goals as goal
 
 pub returns-then-rest-size : goal.returns-then-rest-size
 returns-then-rest-size g c =
-    let at = c.last-start-start in
+    let at = c.last_start-start in
     ends_short g.met.B.Block.laws c.args.memory.now c.args.bits c.requires at.result at.ensures.is at.ensures.within at.ensures.near
-    c.padded-block.result (omega arith) c.padded-block.ensures
+    c.padded_block.result (omega arith) c.padded_block.ensures
 
 pub returns-else-rest-size : goal.returns-else-rest-size
 returns-else-rest-size g c =
-    let at = c.last-start-start in
+    let at = c.last_start-start in
     ends_whole g.met.B.Block.laws c.args.memory.now c.args.bits c.requires at.result at.ensures.is at.ensures.within at.ensures.near
     c.size-size.result c.read.result c.size-size.ensures (omega arith) c.read.ensures

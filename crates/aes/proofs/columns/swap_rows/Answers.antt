@@ -7,4 +7,4 @@ returns c =
     let w = c.args.w in
     let up : (w * 2 ^ 16) % 2 ^ 32 ≡ w % 2 ^ 16 * 2 ^ 16 = omega arith in
     let down : w / 2 ^ 16 ≡ w / 2 ^ 16 % 2 ^ 16 = omega arith in
-    c.rotate-left.ensures ∙ ap₂ bit_or up down ∙ or_shifted (w % 2 ^ 16) 16 (w / 2 ^ 16 % 2 ^ 16) (omega arith)
+    c.rotate_left.ensures ∙ ap₂ bit_or up down ∙ or_shifted (w % 2 ^ 16) 16 (w / 2 ^ 16 % 2 ^ 16) (omega arith)

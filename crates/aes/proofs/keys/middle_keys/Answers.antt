@@ -10,7 +10,7 @@ pub loop-i-preserved : goal.loop-i-preserved
 loop-i-preserved c = (
   (simp length-set c.loop-i.invariant.0),
   pushed (round_key (map unpacked c.args.w.now)) c.loop-i.keys c.loop-i.i c.new.result (omega arith) c.loop-i.invariant.1
-      (ap state_of c.new.ensures ∙ c.round-key-in-loop-i.ensures),
+      (ap state_of c.new.ensures ∙ c.round_key-in-loop-i.ensures),
 )
 
 pub returns : goal.returns

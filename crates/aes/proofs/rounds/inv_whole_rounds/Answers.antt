@@ -10,7 +10,7 @@ pub loop-i-init : goal.loop-i-init
 loop-i-init c = (omega arith, simp take-length)
 
 pub loop-i-preserved : goal.loop-i-preserved
-loop-i-preserved c = (omega arith, down c.args.keys.now c.loop-i.i _ c.index-keys-i.result _ _ _ (omega arith) (omega arith) c.inv-whole-round-x.ensures c.loop-i.invariant.1)
+loop-i-preserved c = (omega arith, down c.args.keys.now c.loop-i.i _ c.index-keys-i.result _ _ _ (omega arith) (omega arith) c.inv_whole_round-x.ensures c.loop-i.invariant.1)
 
 pub returns : goal.returns
 unfolding inv_rounds

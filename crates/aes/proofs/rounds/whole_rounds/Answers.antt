@@ -10,7 +10,7 @@ pub loop-k-init : goal.loop-k-init
 loop-k-init c = (omega arith, refl)
 
 pub loop-k-preserved : goal.loop-k-preserved
-loop-k-preserved c = (omega arith, up c.args.keys.now c.loop-k.k-index _ _ _ _ c.loop-k-test.true c.k-item.is c.whole-round-x.ensures c.loop-k.invariant.1)
+loop-k-preserved c = (omega arith, up c.args.keys.now c.loop-k.k-index _ _ _ _ c.loop-k-test.true c.k-item.is c.whole_round-x.ensures c.loop-k.invariant.1)
 
 pub returns : goal.returns
 unfolding rounds

@@ -8,13 +8,13 @@ use Rattle.aes.proofs.schedule.expand.Goals as goal
 pub loop-i-init : goal.loop-i-init
 loop-i-init c = start c.args.nk _
 
-pub taken-in-t-requires : goal.taken-in-t-requires
-taken-in-t-requires c =
+pub taken_in-t-requires : goal.taken_in-t-requires
+taken_in-t-requires c =
     let pos : 0 < c.args.nk = omega arith in
     (pos, (le-div 1 c.loop-i.i c.args.nk pos (omega arith), div_below c.loop-i.i c.args.nk 11 pos (omega arith)))
 
 pub loop-i-preserved : goal.loop-i-preserved
-loop-i-preserved c = expanded c.args.nk c.loop-i.i c.loop-i.w _ _ (omega arith) (omega arith) (omega arith) c.loop-i.invariant c.taken-in-t.ensures
+loop-i-preserved c = expanded c.args.nk c.loop-i.i c.loop-i.w _ _ (omega arith) (omega arith) (omega arith) c.loop-i.invariant c.taken_in-t.ensures
 
 pub returns : goal.returns
 returns c =

@@ -5,7 +5,7 @@ use Rattle.aes.proofs.Expansion.{loaded}
 use Rattle.aes.proofs.schedule.load.Goals as goal
 
 pub loop-i-preserved : goal.loop-i-preserved
-loop-i-preserved c = loaded c.args.key.now c.loop-i.w c.loop-i.i _ (omega arith) c.loop-i.invariant c.word-at.ensures
+loop-i-preserved c = loaded c.args.key.now c.loop-i.w c.loop-i.i _ (omega arith) c.loop-i.invariant c.word_at.ensures
 
 pub returns : goal.returns
 returns c =

@@ -3,4 +3,4 @@ use Rattle.aes.proofs.Expansion.{rot_word_lem}
 use Rattle.aes.proofs.schedule.rot_word.Goals as goal
 
 pub returns : goal.returns
-returns c = rot_word_lem c.args.t _ (omega arith) c.rotate-left.ensures
+returns c = rot_word_lem c.args.t _ (omega arith) c.rotate_left.ensures

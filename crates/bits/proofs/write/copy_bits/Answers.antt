@@ -14,8 +14,8 @@ returns c =
     let start = c.args.start in
     let k = c.args.count / 8 in
     let n : 8 * k + c.args.count % 8 ≡ c.args.count = omega arith in
-    let mid = put_mid start (start + k - start) memory c.copy-from-slice.new.self in
+    let mid = put_mid start (start + k - start) memory c.copy_from_slice.new.self in
     let is : mid ≡ paste memory start (take k edit) k =
-    put_mid-paste start (start + k - start) memory c.copy-from-slice.new.self (take k edit) k c.copy-from-slice.ensures.after (omega arith) (sym (length-take-le k edit (omega arith))) in
-    copied memory edit mid _ c.splice-bits.new.memory start k (c.args.count % 8) (omega arith) (omega arith) is (take_rest edit k) c.splice-bits.ensures
+    put_mid-paste start (start + k - start) memory c.copy_from_slice.new.self (take k edit) k c.copy_from_slice.ensures.after (omega arith) (sym (length-take-le k edit (omega arith))) in
+    copied memory edit mid _ c.splice_bits.new.memory start k (c.args.count % 8) (omega arith) (omega arith) is (take_rest edit k) c.splice_bits.ensures
     ∙ ap (paste (bits_of memory) (8 * start) (bits_of edit)) n

@@ -10,4 +10,4 @@ returns c n s fits =
     let q = c.args.from in
     let next : c.if-k-edit.next ≡ get_or xs (q / 8 + 1) 0 =
     elim c.if-k-edit.branch [ then-k-edit w ↦ w.next-is | else-k-edit w ↦ w.next-is ∙ sym (get_or_past xs (q / 8 + 1) 0 w.if-k-edit.false) ] in
-    window_bits xs q c.requires c.if-k-edit.next c.from-be-bytes-both.result n next (omega (arith, c.type-inv.edit (q / 8 + 1))) (omega arith) s fits
+    window_bits xs q c.requires c.if-k-edit.next c.from_be_bytes-both.result n next (omega (arith, c.type_inv.edit (q / 8 + 1))) (omega arith) s fits

@@ -8,6 +8,6 @@ returns-in-Some c =
     let items = vec_items c.args.slips.now in
     let slip = c.in-Some.slip in
     record {
-      slips = ap shown c.push-reserved.ensures.items ∙ shown_more items slip ∙ sym (ap (λ z. shown items ++ slip_of z) c.in-Some.is);
-      room = ((let e = c.push-reserved.ensures.len in omega arith), c.push-reserved.ensures.capacity);
+      slips = ap shown c.push_reserved.ensures.items ∙ shown_more items slip ∙ sym (ap (λ z. shown items ++ slip_of z) c.in-Some.is);
+      room = ((let e = c.push_reserved.ensures.len in omega arith), c.push_reserved.ensures.capacity);
     }

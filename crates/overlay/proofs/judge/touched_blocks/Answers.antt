@@ -10,5 +10,5 @@ returns-then-count-eq0 g c =
 pub returns : goal.returns
 returns g c =
     let s = some_touched g.met.B.Block.laws c.args.bits c.args.position c.args.count c.size-width.result c.requires.0 c.requires.1 c.size-width.ensures
-    c.div-ceil-behind.result c.block-count.result c.min-to.result (omega arith) c.div-ceil-behind.ensures c.block-count.ensures c.min-to.ensures in
+    c.div_ceil-behind.result c.block_count.result c.min-to.result (omega arith) c.div_ceil-behind.ensures c.block_count.ensures c.min-to.ensures in
     record { from = s.from_is; count = s.count_is; some = s.some; rising = s.rising; few = s.few; inside = s.inside }

@@ -7,13 +7,13 @@ slice-bounds-bytes-end-2 g c =
     let k : length c.write.new.bytes ≡ c.size-size.result = c.write.auto.bytes ∙ simp length-take (omega (arith, g.met.B.Block.laws.small)) in
     simp (length-append, length-drop) (omega arith)
 
-pub slice-bounds-copy-from-slice-end : goal.slice-bounds-copy-from-slice-end
-slice-bounds-copy-from-slice-end g c =
+pub slice-bounds-copy_from_slice-end : goal.slice-bounds-copy_from_slice-end
+slice-bounds-copy_from_slice-end g c =
     let k : length c.write.new.bytes ≡ c.size-size.result = c.write.auto.bytes ∙ simp length-take (omega (arith, g.met.B.Block.laws.small)) in
     simp (length-take, length-append, length-drop) (omega arith)
 
-pub copy-from-slice-requires : goal.copy-from-slice-requires
-copy-from-slice-requires g c =
+pub copy_from_slice-requires : goal.copy_from_slice-requires
+copy_from_slice-requires g c =
     let k : length c.write.new.bytes ≡ c.size-size.result = c.write.auto.bytes ∙ simp length-take (omega (arith, g.met.B.Block.laws.small)) in
     simp (length-take, length-append, length-drop) (omega arith)
 
@@ -22,4 +22,4 @@ returns g c =
     let k : length c.write.new.bytes ≡ c.size-size.result = c.write.auto.bytes ∙ simp length-take (omega (arith, g.met.B.Block.laws.small)) in
     let h : length c.args.buffer.now ≤ length c.write.new.bytes = omega arith in
     let e = c.write.ensures in
-    c.copy-from-slice.ensures.after ∙ rw take-append-le (rw e)
+    c.copy_from_slice.ensures.after ∙ rw take-append-le (rw e)

@@ -7,8 +7,8 @@ use Rattle.pmac.proofs.Spending.{spent_on, asked_both}
 use Rattle.pmac.proofs.Recovery.{recovered_inner, recovered_last}
 use Rattle.pmac.proofs.lost.lost_block.Goals as goal
 
-pub returns-then-i-block-count : goal.returns-then-i-block-count
-returns-then-i-block-count g c =
+pub returns-then-i-block_count : goal.returns-then-i-block_count
+returns-then-i-block_count g c =
     let A = g.Block.Block.arith in
     let m = g.E.Engine.means c.args.engine.now in
     let k = g.E.Engine.means c.decipher.new.self in
@@ -21,12 +21,12 @@ returns-then-i-block-count g c =
     c.encipher.ensures.answer c.encipher.ensures.after c.in-ok-l.was c.decipher.ensures.answer c.decipher.ensures.after c.in-ok-opened.was in
     let is = recovered_inner g.met.Block.Block.laws m.enc c.args.memory.now c.args.bits (omega arith) m.dec c.args.tag l d c.args.i (both.0 ∙ ap m.enc c.zero.ensures) both.1 (omega arith) in
     record {
-      answer = c.inner-block.ensures.answer ∙ ap (λ z. Ok (lost_inner A z.enc z.dec l d bs c.args.i)) both.2 ∙ ap Ok is;
-      after = spent_on m k (g.E.Engine.means c.inner-block.new.engine) 2 (n - 1) (n + 1) both.2 c.inner-block.ensures.after (omega arith);
+      answer = c.inner_block.ensures.answer ∙ ap (λ z. Ok (lost_inner A z.enc z.dec l d bs c.args.i)) both.2 ∙ ap Ok is;
+      after = spent_on m k (g.E.Engine.means c.inner_block.new.engine) 2 (n - 1) (n + 1) both.2 c.inner_block.ensures.after (omega arith);
     }
 
-pub returns-else-i-block-count : goal.returns-else-i-block-count
-returns-else-i-block-count g c =
+pub returns-else-i-block_count : goal.returns-else-i-block_count
+returns-else-i-block_count g c =
     let A = g.Block.Block.arith in
     let m = g.E.Engine.means c.args.engine.now in
     let k = g.E.Engine.means c.decipher.new.self in
@@ -39,6 +39,6 @@ returns-else-i-block-count g c =
     c.encipher.ensures.answer c.encipher.ensures.after c.in-ok-l.was c.decipher.ensures.answer c.decipher.ensures.after c.in-ok-opened.was in
     let is = recovered_last g.met.Block.Block.laws m.enc c.args.memory.now c.args.bits (omega arith) m.dec c.args.tag l d c.args.i (both.0 ∙ ap m.enc c.zero.ensures) both.1 (omega arith) in
     record {
-      answer = c.last-block.ensures.answer ∙ ap (λ z. Ok (lost_last A z.enc l d bs)) both.2 ∙ ap Ok is;
-      after = spent_on m k (g.E.Engine.means c.last-block.new.engine) 2 (n - 1) (n + 1) both.2 c.last-block.ensures.after (omega arith);
+      answer = c.last_block.ensures.answer ∙ ap (λ z. Ok (lost_last A z.enc l d bs)) both.2 ∙ ap Ok is;
+      after = spent_on m k (g.E.Engine.means c.last_block.new.engine) 2 (n - 1) (n + 1) both.2 c.last_block.ensures.after (omega arith);
     }

@@ -5,9 +5,9 @@ use Rattle.pmac.proofs.seal.ending.Goals as goal
 
 pub returns-then-last : goal.returns-then-last
 returns-then-last g c =
-    ends_whole g.met.B.Block.laws c.args.l (standing c.args.bits c.args.memory.now) c.last-block-last.result c.last-block-last.ensures
+    ends_whole g.met.B.Block.laws c.args.l (standing c.args.bits c.args.memory.now) c.last_block-last.result c.last_block-last.ensures
     c.halve.result c.xor.result (search rules) c.halve.ensures c.xor.ensures
 
 pub returns-else-last : goal.returns-else-last
 returns-else-last g c =
-    ends_short g.met.B.Block.laws c.args.l (standing c.args.bits c.args.memory.now) c.last-block-last.result c.last-block-last.ensures (search rules)
+    ends_short g.met.B.Block.laws c.args.l (standing c.args.bits c.args.memory.now) c.last_block-last.result c.last_block-last.ensures (search rules)

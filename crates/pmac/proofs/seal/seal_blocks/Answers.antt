@@ -16,8 +16,8 @@ loop-i-init g c =
     let f = stored A m.enc c.args.l c.args.memory.now in
     (c.offset-at.ensures, c.zero-sum.ensures ∙ sym (ap (over A f c.args.from) none ∙ over_none A f c.args.from), spent_none m (c.args.from - c.args.from) none)
 
-pub seal-block-requires : goal.seal-block-requires
-seal-block-requires g c =
+pub seal_block-requires : goal.seal_block-requires
+seal_block-requires g c =
     (omega arith, inner c.loop-i.i c.args.to g.Block.Block.arith.size _ c.loop-i-test.true (omega arith))
 
 pub loop-i-preserved : goal.loop-i-preserved
@@ -34,8 +34,8 @@ loop-i-preserved g c =
     let left : i - a < m.left = omega arith in
     let up : i + 1 - a ≡ i - a + 1 = omega arith in
     let at = next_offset w m.enc c.args.memory.now c.args.l a i from some fits c.loop-i.at c.xor-at.result c.doubled.result c.loop-i.invariant.0 c.doubled.ensures c.xor-at.ensures in
-    let y = asked_ok (λ z. z.enc) (λ _ _. refl) m k (i - a) (A.plus (held A c.args.memory.now i) c.xor-at.result) c.seal-block.result c.loop-i.invariant.2 left c.seal-block.ensures.answer c.in-ok-y.y c.in-ok-y.was in (
+    let y = asked_ok (λ z. z.enc) (λ _ _. refl) m k (i - a) (A.plus (held A c.args.memory.now i) c.xor-at.result) c.seal_block.result c.loop-i.invariant.2 left c.seal_block.ensures.answer c.in-ok-y.y c.in-ok-y.was in (
       at,
       next_sum w m.enc c.args.memory.now c.args.l a i from some fits c.loop-i.sum c.xor-sum.result c.in-ok-y.y c.xor-at.result c.loop-i.invariant.1 at y c.xor-sum.ensures,
-      spent_on m k (g.E.Engine.means c.seal-block.new.engine) (i - a) 1 (i + 1 - a) c.loop-i.invariant.2 c.seal-block.ensures.after up,
+      spent_on m k (g.E.Engine.means c.seal_block.new.engine) (i - a) 1 (i + 1 - a) c.loop-i.invariant.2 c.seal_block.ensures.after up,
     )

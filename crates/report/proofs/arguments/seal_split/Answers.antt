@@ -6,7 +6,7 @@ use Rattle.report.proofs.arguments.seal_split.Goals as goal
 pub returns : goal.returns
 returns c =
     let input = c.args.input.now in
-    let key = c.split-at.ensures.front ∙ ap (λ n. take n input) c.min.ensures ∙ take_up_to input 16 in
-    let message = c.split-at.ensures.back ∙ ap (λ n. drop n input) c.min.ensures ∙ drop_up_to input 16 in
-    let P : List ℕ → Type 0 = λ text. IfOk c.seal-text.result (λ s. string_bytes s ≡ text) in
-    subst P (ap₂ (λ k m. under_header (seal_by c.args.cipher k m)) key message) c.seal-text.ensures
+    let key = c.split_at.ensures.front ∙ ap (λ n. take n input) c.min.ensures ∙ take_up_to input 16 in
+    let message = c.split_at.ensures.back ∙ ap (λ n. drop n input) c.min.ensures ∙ drop_up_to input 16 in
+    let P : List ℕ → Type 0 = λ text. IfOk c.seal_text.result (λ s. string_bytes s ≡ text) in
+    subst P (ap₂ (λ k m. under_header (seal_by c.args.cipher k m)) key message) c.seal_text.ensures

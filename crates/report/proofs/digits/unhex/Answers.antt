@@ -5,29 +5,29 @@ use Rattle.report.proofs.digits.unhex.Goals as goal
 
 pub loop-at-preserved : goal.loop-at-preserved
 loop-at-preserved c =
-    let text = c.as-bytes-digits.result.now in
+    let text = c.as_bytes-digits.result.now in
     let h : c.loop-at.at + 1 < length text = omega arith in (
       omega arith,
       one_more text c.loop-at.at (vec_items c.loop-at.bytes) c.loop-at.invariant.1 c.in-Some.byte (vec_items c.push.new.self) h
-          (sym c.in-Some.is ∙ c.byte-of.ensures) c.in-ok-push.ensures.items,
+          (sym c.in-Some.is ∙ c.byte_of.ensures) c.in-ok-push.ensures.items,
     )
 
 pub returns-in-default : goal.returns-in-default
 returns-in-default c =
-    let text = c.as-bytes-digits.result.now in
+    let text = c.as_bytes-digits.result.now in
     let h : c.loop-at.at + 1 < length text = omega arith in
-    no_byte text c.loop-at.at (vec_items c.loop-at.bytes) c.loop-at.invariant.1 h (sym c.in-default.is ∙ c.byte-of.ensures)
-    ∙ ap unhexed c.as-bytes-digits.ensures.value
+    no_byte text c.loop-at.at (vec_items c.loop-at.bytes) c.loop-at.invariant.1 h (sym c.in-default.is ∙ c.byte_of.ensures)
+    ∙ ap unhexed c.as_bytes-digits.ensures.value
 
 pub returns-then-at-digits : goal.returns-then-at-digits
 returns-then-at-digits c =
-    let text = c.as-bytes-digits.result.now in
+    let text = c.as_bytes-digits.result.now in
     let h : c.loop-at.at < length text = omega arith in
     let k : length text ≤ c.loop-at.at + 1 = omega arith in
-    odd_one text c.loop-at.at (vec_items c.loop-at.bytes) c.loop-at.invariant.1 h k ∙ ap unhexed c.as-bytes-digits.ensures.value
+    odd_one text c.loop-at.at (vec_items c.loop-at.bytes) c.loop-at.invariant.1 h k ∙ ap unhexed c.as_bytes-digits.ensures.value
 
 pub returns : goal.returns
 returns c =
-    let text = c.as-bytes-digits.result.now in
+    let text = c.as_bytes-digits.result.now in
     let k : length text ≤ c.loop-at.at = omega arith in
-    all_read text c.loop-at.at (vec_items c.loop-at.bytes) c.loop-at.invariant.1 k ∙ ap unhexed c.as-bytes-digits.ensures.value
+    all_read text c.loop-at.at (vec_items c.loop-at.bytes) c.loop-at.invariant.1 k ∙ ap unhexed c.as_bytes-digits.ensures.value

@@ -4,7 +4,7 @@ use Rattle.xtea.proofs.Turns.{down}
 use Rattle.xtea.proofs.cycles.decipher.Goals as goal
 
 pub loop-i-preserved : goal.loop-i-preserved
-loop-i-preserved c = down _ c.loop-i.-i _ _ _ _ _ _ _ (omega arith) c.loop-i.invariant.0 c.loop-i.invariant.1 c.on-second-w.ensures c.on-first-v.ensures
+loop-i-preserved c = down _ c.loop-i.-i _ _ _ _ _ _ _ (omega arith) c.loop-i.invariant.0 c.loop-i.invariant.1 c.on_second-w.ensures c.on_first-v.ensures
 
 pub returns : goal.returns
 unfolding deciphered

@@ -8,7 +8,7 @@ unfolding enciphered
 loop-i-init c = (refl, refl)
 
 pub loop-i-preserved : goal.loop-i-preserved
-loop-i-preserved c = up _ _ _ _ _ _ _ _ c.loop-i.invariant.0 c.loop-i.invariant.1 c.on-first-v.ensures c.on-second-w.ensures
+loop-i-preserved c = up _ _ _ _ _ _ _ _ c.loop-i.invariant.0 c.loop-i.invariant.1 c.on_first-v.ensures c.on_second-w.ensures
 
 pub returns : goal.returns
 returns c =

@@ -5,4 +5,4 @@ use Rattle.block.proofs.width128.Block128Block.read.Goals as goal
 
 pub returns : goal.returns
 returns c =
-    c.new.ensures ∙ ap make128 (c.value-of.ensures ∙ sym (value_bits 16 c.args.bytes.now c.requires (λ i. omega (arith, c.type-inv.bytes i))))
+    c.new.ensures ∙ ap make128 (c.value_of.ensures ∙ sym (value_bits 16 c.args.bytes.now c.requires (λ i. omega (arith, c.type_inv.bytes i))))

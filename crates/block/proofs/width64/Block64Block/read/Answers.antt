@@ -5,4 +5,4 @@ use Rattle.block.proofs.width64.Block64Block.read.Goals as goal
 
 pub returns : goal.returns
 returns c =
-    c.new.ensures ∙ ap make64 (c.value-of.ensures ∙ sym (value_bits 8 c.args.bytes.now c.requires (λ i. omega (arith, c.type-inv.bytes i))))
+    c.new.ensures ∙ ap make64 (c.value_of.ensures ∙ sym (value_bits 8 c.args.bytes.now c.requires (λ i. omega (arith, c.type_inv.bytes i))))

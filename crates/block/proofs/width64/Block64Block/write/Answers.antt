@@ -5,5 +5,5 @@ use Rattle.block.proofs.width64.Block64Block.write.Goals as goal
 
 pub returns : goal.returns
 returns c =
-    let e : c.copy-from-slice.new.self ≡ digits 8 c.args.self.value = search rules in
+    let e : c.copy_from_slice.new.self ≡ digits 8 c.args.self.value = search rules in
     e ∙ sym (bytes_bits 8 c.args.self.value)

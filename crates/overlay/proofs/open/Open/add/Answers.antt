@@ -7,6 +7,6 @@ use Rattle.overlay.proofs.open.Open.add.Goals as goal
 pub returns : goal.returns
 returns g c =
     let v = world g.E.Engine.means c.args.self.now c.args.memory.now [] in
-    let a = seen c.of.result (world g.E.Engine.means c.add-blocks.new.self c.add-blocks.new.memory []) in
+    let a = seen c.of.result (world g.E.Engine.means c.add_blocks.new.self c.add_blocks.new.memory []) in
     let e : a ≡ add g.Block.Block.arith v c.args.edit.now c.args.count = search rules in
     record { after = e; law = add_law g.met.Block.Block.laws v _ _ a e }
