@@ -9,8 +9,8 @@ returns c =
     ap (bits 8) (word_is c.args.old c.args.piece c.args.from c.args.count t (omega arith) (omega arith) (omega arith))
     ∙ word_bits c.args.old c.args.piece c.args.from c.args.count t (omega arith) (omega arith) (omega arith)
 
-pub overflow-cast-result : goal.overflow-cast-result
-overflow-cast-result c =
+pub overflow_cast-result : goal.overflow_cast-result
+overflow_cast-result c =
     let t = 8 - c.args.from - c.args.count in
     let e = word_is c.args.old c.args.piece c.args.from c.args.count t (omega arith) (omega arith) (omega arith) in
     let h = word_lt c.args.old c.args.piece c.args.from c.args.count t (omega arith) (omega arith) (omega arith) in

@@ -2,13 +2,13 @@ use Rattle.std.proofs.Common.{◌≡◌, ◌≤◌, length, ap, ◌∙◌, arith
 use lib.Seq.{take-append-le}
 use Rattle.overlay.proofs.judge.write_front.Goals as goal
 
-pub slice-bounds-bytes-end-2 : goal.slice-bounds-bytes-end-2
-slice-bounds-bytes-end-2 g c =
+pub slice_bounds-bytes-end-2 : goal.slice_bounds-bytes-end-2
+slice_bounds-bytes-end-2 g c =
     let k : length c.write.new.bytes ≡ c.size-size.result = c.write.auto.bytes ∙ simp length-take (omega (arith, g.met.B.Block.laws.small)) in
     simp (length-append, length-drop) (omega arith)
 
-pub slice-bounds-copy_from_slice-end : goal.slice-bounds-copy_from_slice-end
-slice-bounds-copy_from_slice-end g c =
+pub slice_bounds-copy_from_slice-end : goal.slice_bounds-copy_from_slice-end
+slice_bounds-copy_from_slice-end g c =
     let k : length c.write.new.bytes ≡ c.size-size.result = c.write.auto.bytes ∙ simp length-take (omega (arith, g.met.B.Block.laws.small)) in
     simp (length-take, length-append, length-drop) (omega arith)
 
