@@ -4,7 +4,7 @@
 mod write;
 
 ghost use Rattle.std.specs.Prelude.{◌≡◌, ℕ, ◌+◌, ◌-◌, ◌*◌, ◌<◌, ◌≤◌, true, false, not, ◌∷◌, ◌++◌, length, take, replicate};
-ghost use Rattle.block.specs.Bits.{bits as bitsIn, bits_of};
+ghost use Rattle.block.specs.Bits.{bits as bits_in, bits_of};
 ghost use Rattle.bits.specs.Blocks.{blocks, padded};
 ghost use Rattle.bits.specs.Memory.{standing, unfit, held, closing};
 
@@ -101,7 +101,7 @@ fn padded_bytes(tail: &[u8], rest: usize) -> [u8; 16]
 // The first `k` bits of a byte, then a 1 and zeros.
 fn closed(byte: u8, k: u32) -> u8
     requires { k < 8 }
-    ensures { bitsIn 8 result ≡ take k (bitsIn 8 byte) ++ (true ∷ replicate (7 - k) false) }
+    ensures { bits_in 8 result ≡ take k (bits_in 8 byte) ++ (true ∷ replicate (7 - k) false) }
 {
     let cut = 7 - k;
     ((byte >> cut) | 1) << cut

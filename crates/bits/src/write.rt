@@ -1,7 +1,7 @@
 // Bits written into a memory at any position, and whole blocks.
 ghost use Rattle.std.specs.Prelude.{◌≡◌, ℕ, ◌+◌, ◌-◌, ◌*◌, ◌<◌, ◌≤◌, length, take, drop};
 ghost use Rattle.std.proofs.Math.Seq.{paste};
-ghost use Rattle.block.specs.Bits.{bits as bitsIn, bits_of};
+ghost use Rattle.block.specs.Bits.{bits as bits_in, bits_of};
 ghost use Rattle.bits.specs.Memory.{written, replaced};
 
 use block::Block;
@@ -61,7 +61,7 @@ fn splice_bits(memory: &mut [u8], position: usize, edit: &[u8], count: usize)
 // Eight bits of `edit` from bit `from` on, with zeros past its end.
 fn window(edit: &[u8], from: usize) -> u8
     requires { from < 8 * length edit.now }
-    ensures { (c : ℕ) → c ≤ 8 → from + c ≤ 8 * length edit.now → take c (bitsIn 8 result) ≡ take c (drop from (bits_of edit.now)) }
+    ensures { (c : ℕ) → c ≤ 8 → from + c ≤ 8 * length edit.now → take c (bits_in 8 result) ≡ take c (drop from (bits_of edit.now)) }
 {
     let k = from / 8;
     let next = if k + 1 < edit.len() { edit[k + 1] } else { 0 };
@@ -72,7 +72,7 @@ fn window(edit: &[u8], from: usize) -> u8
 // `old` with the first `count` bits of `piece` in place of those from bit `from` on.
 fn spliced(old: u8, from: u32, piece: u8, count: u32) -> u8
     requires { from + count ≤ 8 }
-    ensures { bitsIn 8 result ≡ paste (bitsIn 8 old) from (bitsIn 8 piece) count }
+    ensures { bits_in 8 result ≡ paste (bits_in 8 old) from (bits_in 8 piece) count }
 {
     let word = old as u32;
     let behind = 8 - from - count;

@@ -1,10 +1,10 @@
 // One call on an overlay, by the public calls of `overlay`.
 ghost use Rattle.std.specs.Prelude.{◌≡◌, [], take, vec_len, vec_capacity};
 ghost use Rattle.overlay.specs.Views.{state, arrived, world};
-ghost use Rattle.overlay.specs.Calls.{check as checkOf, tag as tag_of};
+ghost use Rattle.overlay.specs.Calls.{check as check_of, tag as tag_of};
 ghost use Rattle.history.specs.Desk.{Reckons, after_check, after_tag, blank, booked_at, called, on_open, on_received, turn, untouched};
 ghost use Rattle.history.specs.Views.{answer_of, call_of, desk_of, kept, moved_of, outcome_of, shown, turn_of};
-ghost use Rattle.overlay.specs.Refusals.{outcome as overlayOutcome, booking_outcome};
+ghost use Rattle.overlay.specs.Refusals.{outcome as overlay_outcome, booking_outcome};
 
 use crate::tag::{Tagged, tag_bytes};
 use crate::{Call, CallFault, Said, Stage, Stepped, TagBytes};
@@ -24,7 +24,7 @@ fn passed<E: Engine>(stage: Stage<E>) -> Stepped<E>
 
 // What an overlay's call answered, with a tag's bytes.
 pub(crate) fn answered<E: Engine>(stage: Stage<E>, answer: Answer, tag: TagBytes) -> Stepped<E>
-    ensures { turn_of E.Engine.means result [] ≡ turn (overlayOutcome answer.outcome) (take tag.length tag.buffer) (kept E.Engine.means stage) [] answer.slip.count }
+    ensures { turn_of E.Engine.means result [] ≡ turn (overlay_outcome answer.outcome) (take tag.length tag.buffer) (kept E.Engine.means stage) [] answer.slip.count }
 {
     let Answer { outcome, slip } = answer;
     let outcome = match outcome {
@@ -92,7 +92,7 @@ fn on_received<E: Engine>(
 
 // A check: a right tag opens the overlay.
 fn check<E: Engine>(received: Received<E>, memory: &[u8], tag: &[u8]) -> Stepped<E>
-    ensures { turn_of E.Engine.means result memory.now ≡ «after_check» memory.now (checkOf Block-as-Block.arith (arrived E.Engine.means received) memory.now tag.now) }
+    ensures { turn_of E.Engine.means result memory.now ≡ «after_check» memory.now (check_of Block-as-Block.arith (arrived E.Engine.means received) memory.now tag.now) }
 {
     let Checked { outcome, slip } = received.check(memory, tag);
     let tag = TagBytes::none();

@@ -1,7 +1,7 @@
 // A received overlay's lost block, written back.
 ghost use Rattle.std.specs.Prelude.{◌≡◌};
 ghost use Rattle.pmac.specs.Recovery.{OneBlock};
-ghost use Rattle.history.specs.Restoring.{restoring as restoringOf, Restores};
+ghost use Rattle.history.specs.Restoring.{restoring as restoring_of, Restores};
 ghost use Rattle.history.specs.Views.{turn_of};
 
 use crate::calls::answered;
@@ -19,7 +19,7 @@ pub fn restore<E: Engine>(
     tag: &[u8],
     number: u32,
 ) -> Stepped<E>
-    ensures after { turn_of E.Engine.means result memory.new ≡ restoringOf Block-as-Block.arith (E.Engine.means engine) memory.old bits tag.now number }
+    ensures after { turn_of E.Engine.means result memory.new ≡ restoring_of Block-as-Block.arith (E.Engine.means engine) memory.old bits tag.now number }
     ensures law { Restores Block-as-Block.arith (E.Engine.means engine) memory.old bits tag.now number (turn_of E.Engine.means result memory.new) }
     ensures one_block { OneBlock Block-as-Block.arith }
 {
@@ -34,7 +34,7 @@ fn write_anew<E: Engine>(
     tag: &[u8],
     number: u32,
 ) -> Stepped<E>
-    ensures { turn_of E.Engine.means result memory.new ≡ restoringOf Block-as-Block.arith (E.Engine.means engine) memory.old bits tag.now number }
+    ensures { turn_of E.Engine.means result memory.new ≡ restoring_of Block-as-Block.arith (E.Engine.means engine) memory.old bits tag.now number }
 {
     let Taken { outcome, slip } = Received::new(engine, bits, memory);
     match outcome {

@@ -1,7 +1,7 @@
 // Whole histories.
 ghost use Rattle.std.specs.Prelude.{◌≡◌, ◌+◌, ◌<◌, ◌≤◌, true, List, [], ◌∷◌, ◌++◌, length, is_ok, vec_len, vec_capacity};
-ghost use Rattle.overlay.specs.Refusals.{carried, refused as refusedBy, overlay_refusal};
-ghost use Rattle.history.specs.Desk.{Advances, Runs, called, engine as engineBack, ran, started as startedOf, turn};
+ghost use Rattle.overlay.specs.Refusals.{carried, refused as refused_by, overlay_refusal};
+ghost use Rattle.history.specs.Desk.{Advances, Runs, called, engine as engine_back, ran, started as started_of, turn};
 ghost use Rattle.history.specs.Views.{Replayed, beginning_of, call_of, calls_of, desk_of, kept, replies_of, reply_of, shown, slip_of, telling_of, turn_of};
 ghost use Rattle.history.specs.declared.answer.Reply.{Reply as CodeReply};
 
@@ -25,7 +25,7 @@ fn begun<E: Engine>(stage: Stage<E>, slip: Slip) -> Stepped<E>
 
 // Open or receive, refused, with the engine handed back.
 pub(crate) fn refused<E: Engine>(back: Refused<E>, slip: Slip) -> Stepped<E>
-    ensures { turn_of E.Engine.means result [] ≡ turn (refusedBy (overlay_refusal back.fault)) [] (engineBack (E.Engine.means back.engine)) [] slip.count }
+    ensures { turn_of E.Engine.means result [] ≡ turn (refused_by (overlay_refusal back.fault)) [] (engine_back (E.Engine.means back.engine)) [] slip.count }
 {
     let Refused { fault, engine } = back;
     Stepped {
@@ -40,7 +40,7 @@ pub(crate) fn refused<E: Engine>(back: Refused<E>, slip: Slip) -> Stepped<E>
 
 // Open or receive.
 fn begin<E: Engine>(beginning: Beginning, engine: E, memory: &[u8]) -> Stepped<E>
-    ensures { turn_of E.Engine.means result memory.now ≡ startedOf Block-as-Block.arith (beginning_of beginning) (E.Engine.means engine) memory.now }
+    ensures { turn_of E.Engine.means result memory.now ≡ started_of Block-as-Block.arith (beginning_of beginning) (E.Engine.means engine) memory.now }
 {
     match beginning {
         Beginning::Opening => {

@@ -1,6 +1,6 @@
 // The calls of an open overlay.
 ghost use Rattle.std.specs.Prelude.{◌≡◌, []};
-ghost use Rattle.overlay.specs.Calls.{begin, add as addOf, cut as cut_of, put as put_of, tag as tag_of};
+ghost use Rattle.overlay.specs.Calls.{begin, add as add_of, cut as cut_of, put as put_of, tag as tag_of};
 ghost use Rattle.overlay.specs.Laws.{Opens, Adds, Cuts, Puts, Tags};
 ghost use Rattle.overlay.specs.Views.{world, worked, seen, started, Returned};
 
@@ -45,7 +45,7 @@ impl<E: Engine> Open<E> {
 
     // Writes the first `count` bits of `edit` behind the bits standing.
     pub fn add(&mut self, memory: &mut [u8], edit: &[u8], count: u32) -> Answer
-        ensures after { seen result (world E.Engine.means self.new memory.new []) ≡ addOf E.Block.Block.arith (world E.Engine.means self.old memory.old []) edit.now count }
+        ensures after { seen result (world E.Engine.means self.new memory.new []) ≡ add_of E.Block.Block.arith (world E.Engine.means self.old memory.old []) edit.now count }
         ensures law { Adds E.Block.Block.arith (world E.Engine.means self.old memory.old []) edit.now count (seen result (world E.Engine.means self.new memory.new [])) }
     {
         Answer::of(self.add_blocks(memory, edit, count))
@@ -82,7 +82,7 @@ impl<E: Engine> Open<E> {
         edit: &[u8],
         count: u32,
     ) -> Result<u32, OverlayFault>
-        ensures { worked result (world E.Engine.means self.new memory.new []) ≡ addOf E.Block.Block.arith (world E.Engine.means self.old memory.old []) edit.now count }
+        ensures { worked result (world E.Engine.means self.new memory.new []) ≡ add_of E.Block.Block.arith (world E.Engine.means self.old memory.old []) edit.now count }
     {
         judge::fit(memory, self.bits)?;
         judge::enough(edit, count)?;

@@ -2,7 +2,7 @@
 ghost use Rattle.std.specs.Prelude.{◌≡◌, ◌+◌, ◌-◌, ◌*◌, ◌≤◌, true, length, take, is_ok};
 ghost use Rattle.block.specs.Arith.{to_bytes};
 ghost use Rattle.bits.specs.Blocks.{blocks};
-ghost use Rattle.pmac.specs.Edits.{touched_from, touched as touchedOf};
+ghost use Rattle.pmac.specs.Edits.{touched_from, touched as touched_of};
 ghost use Rattle.overlay.specs.Receiving.{same};
 ghost use Rattle.overlay.specs.Tests.{fits, offers, reaches, leaves, tags, fills, has};
 
@@ -121,7 +121,7 @@ pub(crate) fn blocks_between<B: Block>(low: u32, high: u32) -> Span
 pub(crate) fn touched_blocks<B: Block>(bits: u32, position: u32, count: u32) -> Span
     requires { (position + count ≤ bits) × (bits ≤ 524288) }
     ensures from { result.from ≡ «touched_from» B.Block.arith position }
-    ensures count { result.to - result.from ≡ touchedOf B.Block.arith bits position count }
+    ensures count { result.to - result.from ≡ touched_of B.Block.arith bits position count }
     ensures some { 1 ≤ result.from }
     ensures rising { result.from ≤ result.to }
     ensures few { result.to ≤ 65537 }

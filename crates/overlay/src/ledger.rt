@@ -1,6 +1,6 @@
 // The accounts into which slips are booked.
 ghost use Rattle.std.specs.Prelude.{◌≡◌, true, is_ok};
-ghost use Rattle.overlay.specs.Ledger.{opened, held, takes, entered, book as bookOf};
+ghost use Rattle.overlay.specs.Ledger.{opened, held, takes, entered, book as book_of};
 ghost use Rattle.overlay.specs.Views.{booked};
 
 use crate::{BookingFault, Slip};
@@ -68,7 +68,7 @@ impl Ledger {
 
     // Moves a slip's number into an account, and leaves the slip at zero.
     pub fn book(&mut self, slip: &mut Slip, account: u8) -> Result<(), BookingFault>
-        ensures after { booked result self.new.accounts slip.new.count ≡ bookOf self.old.accounts slip.old.count account }
+        ensures after { booked result self.new.accounts slip.new.count ≡ book_of self.old.accounts slip.old.count account }
         ensures emptied { is_ok result ≡ true → slip.new.count ≡ 0 }
     {
         if account > 15 {

@@ -1,6 +1,6 @@
 // The calls of a received overlay.
 ghost use Rattle.std.specs.Prelude.{◌≡◌};
-ghost use Rattle.overlay.specs.Receiving.{receive as receiveOf, check as checkOf, recover as recoverOf};
+ghost use Rattle.overlay.specs.Receiving.{receive as receive_of, check as check_of, recover as recover_of};
 ghost use Rattle.overlay.specs.Views.{arrived, harbour, taken, found, examined, worked, seen, Returned};
 
 use crate::received::Examined;
@@ -11,7 +11,7 @@ use engine::Engine;
 impl<E: Engine> Received<E> {
     // The memory's first `bits` bits over `engine`, which is asked nothing; a refusal gives it back.
     pub fn new(engine: E, bits: u32, memory: &[u8]) -> Taken<E>
-        ensures after { taken E.Engine.means result.outcome result.slip.count ≡ receiveOf Block-as-Block.arith (E.Engine.means engine) memory.now bits }
+        ensures after { taken E.Engine.means result.outcome result.slip.count ≡ receive_of Block-as-Block.arith (E.Engine.means engine) memory.now bits }
         ensures back { Returned result.outcome engine }
         ensures free { result.slip.count ≡ 0 }
     {
@@ -27,7 +27,7 @@ impl<E: Engine> Received<E> {
 
     // Opens the overlay if `tag` is its tag's first bytes.
     pub fn check(mut self, memory: &[u8], tag: &[u8]) -> Checked<E>
-        ensures after { found E.Engine.means result.outcome result.slip.count ≡ checkOf Block-as-Block.arith (arrived E.Engine.means self) memory.now tag.now }
+        ensures after { found E.Engine.means result.outcome result.slip.count ≡ check_of Block-as-Block.arith (arrived E.Engine.means self) memory.now tag.now }
     {
         match self.examine(memory, tag) {
             Ok(Examined { sealed, due, right }) => {
@@ -64,7 +64,7 @@ impl<E: Engine> Received<E> {
 
     // The work of `check`.
     fn examine(&mut self, memory: &[u8], tag: &[u8]) -> Result<Examined<E::Block>, OverlayFault>
-        ensures { examined E.Engine.means result self.new ≡ checkOf E.Block.Block.arith (arrived E.Engine.means self.old) memory.now tag.now }
+        ensures { examined E.Engine.means result self.new ≡ check_of E.Block.Block.arith (arrived E.Engine.means self.old) memory.now tag.now }
     {
         judge::fit(memory, self.bits)?;
         judge::tag_length::<E::Block>(tag.len())?;
@@ -79,7 +79,7 @@ impl<E: Engine> Received<E> {
 
     // Writes block `number` anew, so that `tag` is the full tag; what the block holds is not looked at.
     pub fn recover(&mut self, memory: &mut [u8], tag: &[u8], number: u32) -> Answer
-        ensures after { seen result (harbour E.Engine.means self.new memory.new) ≡ recoverOf E.Block.Block.arith (harbour E.Engine.means self.old memory.old) tag.now number }
+        ensures after { seen result (harbour E.Engine.means self.new memory.new) ≡ recover_of E.Block.Block.arith (harbour E.Engine.means self.old memory.old) tag.now number }
     {
         Answer::of(self.write_back(memory, tag, number))
     }
@@ -91,7 +91,7 @@ impl<E: Engine> Received<E> {
         tag: &[u8],
         number: u32,
     ) -> Result<u32, OverlayFault>
-        ensures { worked result (harbour E.Engine.means self.new memory.new) ≡ recoverOf E.Block.Block.arith (harbour E.Engine.means self.old memory.old) tag.now number }
+        ensures { worked result (harbour E.Engine.means self.new memory.new) ≡ recover_of E.Block.Block.arith (harbour E.Engine.means self.old memory.old) tag.now number }
     {
         judge::fit(memory, self.bits)?;
         judge::full_length::<E::Block>(tag.len())?;

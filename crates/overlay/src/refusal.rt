@@ -1,7 +1,7 @@
 // The numbers under which faults are told, and an engine's fault as an overlay's.
 ghost use Rattle.std.specs.Prelude.{◌≡◌};
 ghost use Rattle.overlay.specs.Refusals.{overlay_refusal, booking_refusal};
-ghost use Rattle.overlay.specs.declared.fault.OverlayFault.TheVariants.{Engine as byEngine};
+ghost use Rattle.overlay.specs.declared.fault.OverlayFault.TheVariants.{Engine as by_engine};
 
 use crate::{BookingFault, OverlayFault};
 use engine::EngineFault;
@@ -35,7 +35,7 @@ impl BookingFault {
 }
 
 impl From<EngineFault> for OverlayFault {
-    ghost from_gives = { λ e r. r ≡ byEngine e };
+    ghost from_gives = { λ e r. r ≡ by_engine e };
 
     fn from(fault: EngineFault) -> OverlayFault {
         OverlayFault::Engine(fault)

@@ -1,12 +1,12 @@
 // Offsets of blocks.
 ghost use Rattle.std.specs.Prelude.{◌≡◌};
-ghost use Rattle.pmac.specs.Pmac.{doubled as doubledOf, offset as offset_of};
+ghost use Rattle.pmac.specs.Pmac.{doubled as doubled_of, offset as offset_of};
 
 use block::Block;
 
 // `x` doubled `times` times.
 pub(crate) fn doubled<B: Block>(mut x: B, times: u32) -> B
-    ensures { result ≡ doubledOf B.Block.arith times x }
+    ensures { result ≡ doubled_of B.Block.arith times x }
 {
     for _i in 0..times {
         x = x.double();

@@ -1,7 +1,7 @@
 // The number under which a fault is told, and an engine's fault as this crate's own.
 ghost use Rattle.std.specs.Prelude.{◌≡◌};
 ghost use Rattle.pmac.specs.Sealing.{tag_refusal};
-ghost use Rattle.pmac.specs.declared.fault.TagFault.TheVariants.{Engine as byEngine};
+ghost use Rattle.pmac.specs.declared.fault.TagFault.TheVariants.{Engine as by_engine};
 
 use crate::TagFault;
 use engine::EngineFault;
@@ -18,7 +18,7 @@ impl TagFault {
 }
 
 impl From<EngineFault> for TagFault {
-    ghost from_gives = { λ e r. r ≡ byEngine e };
+    ghost from_gives = { λ e r. r ≡ by_engine e };
 
     fn from(fault: EngineFault) -> TagFault {
         TagFault::Engine(fault)

@@ -3,7 +3,7 @@ ghost use Rattle.std.specs.Prelude.{◌≡◌, ℕ, ◌+◌, ◌-◌, ◌*◌, �
 ghost use Rattle.bits.specs.Blocks.{blocks, last as last_of};
 ghost use Rattle.bits.specs.Memory.{standing, held};
 ghost use Rattle.engine.specs.Meaning.{answered, spent};
-ghost use Rattle.pmac.specs.Pmac.{over, ending as endingOf, full as full_of};
+ghost use Rattle.pmac.specs.Pmac.{over, ending as ending_of, full as full_of};
 ghost use Rattle.pmac.specs.Sealing.{sealing};
 ghost use Rattle.pmac.specs.Stored.{stored};
 
@@ -22,7 +22,7 @@ pub fn due<B: Block>(bits: usize) -> u32
 // What the last block of the memory's first `bits` bits adds to the sum.
 pub fn ending<B: Block>(memory: &[u8], bits: usize, l: B) -> B
     requires { bits ≤ 8 * length memory.now }
-    ensures { result ≡ endingOf B.Block.arith l (last_of B.Block.arith (standing bits memory.now)) }
+    ensures { result ≡ ending_of B.Block.arith l (last_of B.Block.arith (standing bits memory.now)) }
 {
     let last = bits::last_block::<B>(memory, bits);
     if last.whole {

@@ -5,7 +5,7 @@ use Rattle.history.proofs.restoring.restore.Goals as goal
 
 pub returns : goal.returns
 returns g c =
-    let w = g.met.Block.Block.laws in
+    let w = g.met.E.Block.Block.laws in
     let e = c.write_anew.ensures in
     record {
       after = e;

@@ -16,7 +16,7 @@ returns g c =
     let e : m.desk ≡ of = ap₂ (λ x y. record { overlay = kept means x; memory = memory; accounts = accounts; slips = y }) (sym c.note.ensures.stage) (sym c.note.ensures.slips) in
     record {
       after = sym e ∙ ap (λ z. z.desk) c.step-stepped.ensures.after;
-      told = (telling_of means s, (c.note.ensures.told, tells g.met.Block.Block.laws d (call_of c.args.call.now) m c.step-stepped.ensures.law of e));
+      told = (telling_of means s, (c.note.ensures.told, tells g.met.E.Block.Block.laws d (call_of c.args.call.now) m c.step-stepped.ensures.law of e));
       room = ((let a = c.note.ensures.room.0 in let b = c.step-stepped.ensures.room.0 in omega arith), c.note.ensures.room.1 ∙ c.step-stepped.ensures.room.1);
       space = c.note.ensures.space;
     }

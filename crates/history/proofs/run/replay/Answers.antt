@@ -22,12 +22,12 @@ returns g c =
     let at : Turn g.E.Block.Denot → Desk g.E.Block.Denot = λ t. record { overlay = t.overlay; memory = t.memory; accounts = accounts; slips = slips ++ t.slip } in
     record {
       history = (
-        c.resume.ensures.after ∙ ap (λ z. ran g.Block.Block.arith z (calls_of c.args.calls.now)) (ed ∙ ap at c.begin-begun.ensures),
+        c.resume.ensures.after ∙ ap (λ z. ran g.E.Block.Block.arith z (calls_of c.args.calls.now)) (ed ∙ ap at c.begin-begun.ensures),
         (
           x ∷ xs,
           (
             c.resume.ensures.told.1.0 ∙ ap (λ z. z ++ xs) (c.note-stage.ensures.told ∙ ap (λ z. z ++ (x ∷ [])) c.reserve-2.ensures.items) ∙ append_assoc items (x ∷ []) xs,
-            whole g.met.Block.Block.laws (means c.args.engine) memory accounts slips c.args.ledger.now.sixteen (beginning_of c.args.beginning) (calls_of c.args.calls.now)
+            whole g.met.E.Block.Block.laws (means c.args.engine) memory accounts slips c.args.ledger.now.sixteen (beginning_of c.args.beginning) (calls_of c.args.calls.now)
                 (turn_of means s memory) (reply_of x) (replies_of xs) d _ c.begin-begun.ensures ed refl c.resume.ensures.told.1.1,
           ),
         ),

@@ -8,7 +8,7 @@ pub loop-call-init : goal.loop-call-init
 loop-call-init g c =
     let items = vec_items c.args.replies.now in
     let d = desk_of g.E.Engine.means c.args.stage c.args.memory.now c.args.ledger.now.accounts (vec_items c.args.slips.now) in
-    ((let h = c.requires.0 in omega arith), ((let h = c.requires.1 in omega arith), (refl, ([], (sym (append-nil items), runs_none g.Block.Block.arith d)))))
+    ((let h = c.requires.0 in omega arith), ((let h = c.requires.1 in omega arith), (refl, ([], (sym (append-nil items), runs_none g.E.Block.Block.arith d)))))
 
 pub loop-call-preserved : goal.loop-call-preserved
 loop-call-preserved g c =
@@ -22,12 +22,12 @@ loop-call-preserved g c =
       (
         (let a = inv.1.0 in let b = space.0 in let e = space.1 in let t = c.loop-call-test.true in omega arith),
         (
-          ran_on g.Block.Block.arith _ _ _ c.args.calls.now c.loop-call.call-index _ c.loop-call-test.true inv.1.1.0 c.advance-stage.ensures.after,
+          ran_on g.E.Block.Block.arith _ _ _ c.args.calls.now c.loop-call.call-index _ c.loop-call-test.true inv.1.1.0 c.advance-stage.ensures.after,
           (
             xs ++ (told.0 ∷ []),
             (
               told.1.0 ∙ ap (λ z. z ++ (told.0 ∷ [])) inv.1.1.1.1.0 ∙ append_assoc items xs (told.0 ∷ []),
-              resumed g.Block.Block.arith _ _ _ c.args.calls.now c.loop-call.call-index _ xs told.0 c.loop-call-test.true inv.1.1.1.1.1 told.1.1,
+              resumed g.E.Block.Block.arith _ _ _ c.args.calls.now c.loop-call.call-index _ xs told.0 c.loop-call-test.true inv.1.1.1.1.1 told.1.1,
             ),
           ),
         ),
@@ -39,6 +39,6 @@ returns g c =
     let inv = c.loop-call.invariant in
     let xs = inv.1.1.1.0 in
     record {
-      after = ran_all g.Block.Block.arith _ _ c.args.calls.now c.loop-call.call-index c.loop-call-test.false inv.1.1.0;
-      told = (xs, (inv.1.1.1.1.0, all_of g.Block.Block.arith _ _ c.args.calls.now c.loop-call.call-index (replies_of xs) c.loop-call-test.false inv.1.1.1.1.1));
+      after = ran_all g.E.Block.Block.arith _ _ c.args.calls.now c.loop-call.call-index c.loop-call-test.false inv.1.1.0;
+      told = (xs, (inv.1.1.1.1.0, all_of g.E.Block.Block.arith _ _ c.args.calls.now c.loop-call.call-index (replies_of xs) c.loop-call-test.false inv.1.1.1.1.1));
     }

@@ -17,7 +17,7 @@ returns-in-Ok g c =
     record {
       after = ap (λ z. seen c.tag_answer.result (world g.E.Engine.means c.tag_answer.new.self c.args.memory.now z)) t
           ∙ c.tag_answer.ensures.after
-          ∙ ap (λ z. tag g.Block.Block.arith (world g.E.Engine.means c.args.overlay.now c.args.memory.now (take z (replicate 17 0)))) em;
+          ∙ ap (λ z. tag g.E.Block.Block.arith (world g.E.Engine.means c.args.overlay.now c.args.memory.now (take z (replicate 17 0)))) em;
       given = ap (λ z. take z (buf ++ drop n (replicate 17 0))) em ∙ sym (ap (λ o. then (outcome o) (take (min c.args.bytes 17) (buf ++ drop n (replicate 17 0))) []) c.in-Ok.is);
     }
 
@@ -31,6 +31,6 @@ returns-in-Err g c =
     record {
       after = ap (λ z. seen c.tag_answer.result (world g.E.Engine.means c.tag_answer.new.self c.args.memory.now z)) t
           ∙ c.tag_answer.ensures.after
-          ∙ ap (λ z. tag g.Block.Block.arith (world g.E.Engine.means c.args.overlay.now c.args.memory.now (take z (replicate 17 0)))) em;
+          ∙ ap (λ z. tag g.E.Block.Block.arith (world g.E.Engine.means c.args.overlay.now c.args.memory.now (take z (replicate 17 0)))) em;
       given = sym (ap (λ o. then (outcome o) (take (min c.args.bytes 17) (buf ++ drop n (replicate 17 0))) []) c.in-Err.is);
     }

@@ -11,20 +11,20 @@ use Rattle.pmac.proofs.lost.last_block.Goals as goal
 
 pub seal_blocks-requires : goal.seal_blocks-requires
 seal_blocks-requires g c =
-    let w = g.met.Block.Block.laws in
+    let w = g.met.E.Block.Block.laws in
     let some = blocks_some w c.args.bits in
     (omega arith, (omega arith, (in_memory w c.args.memory.now c.args.bits c.block_count-count.result (omega arith) (omega arith), omega arith)))
 
 pub returns : goal.returns
 returns g c =
-    let A = g.Block.Block.arith in
-    let w = g.met.Block.Block.laws in
+    let A = g.E.Block.Block.arith in
+    let w = g.met.E.Block.Block.laws in
     let m = g.E.Engine.means c.args.engine.now in
     let l = c.args.l in
     let count = c.block_count-count.ensures in
-    let sum_is : c.in-ok-sum.sum ≡ over A (stored A m.enc l c.args.memory.now) 1 (blocks A c.args.bits - 1) =
-    ok_same c.in-ok-sum.sum _ c.seal_blocks.result c.in-ok-sum.was c.seal_blocks.ensures.answer ∙ ap (λ n. over A (stored A m.enc l c.args.memory.now) 1 (n - 1)) count in
+    let sum_is : c.in_ok-sum.sum ≡ over A (stored A m.enc l c.args.memory.now) 1 (blocks A c.args.bits - 1) =
+    ok_same c.in_ok-sum.sum _ c.seal_blocks.result c.in_ok-sum.was c.seal_blocks.ensures.answer ∙ ap (λ n. over A (stored A m.enc l c.args.memory.now) 1 (n - 1)) count in
     record {
-      answer = ap Ok (c.xor-2.ensures ∙ ap (λ x. A.plus x c.halve.result) c.xor.ensures ∙ last_found w m.enc c.args.memory.now c.args.bits (omega arith) l c.args.opened c.in-ok-sum.sum c.halve.result sum_is c.halve.ensures);
+      answer = ap Ok (c.xor-2.ensures ∙ ap (λ x. A.plus x c.halve.result) c.xor.ensures ∙ last_found w m.enc c.args.memory.now c.args.bits (omega arith) l c.args.opened c.in_ok-sum.sum c.halve.result sum_is c.halve.ensures);
       after = c.seal_blocks.ensures.after ∙ ap (λ n. spent (n - 1) m) count;
     }

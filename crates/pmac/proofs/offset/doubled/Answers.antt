@@ -8,4 +8,4 @@ unfolding doubled
 loop-i-init g c = refl
 
 pub loop-i-preserved : goal.loop-i-preserved
-loop-i-preserved g c = doubled_more g.met.B.Block.laws c.loop-i.-i c.loop-i.x c.double-x.result c.args.x c.loop-i.invariant c.double-x.ensures
+loop-i-preserved g c = doubled_more g.met.B.Block.laws c.loop-i._i c.loop-i.x c.double-x.result c.args.x c.loop-i.invariant c.double-x.ensures

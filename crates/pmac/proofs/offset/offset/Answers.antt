@@ -18,8 +18,8 @@ loop-g-preserved g c =
     let h = c.loop-g.invariant.0 in (
       omega arith,
       elim c.if-g-eq1.branch [
-        | then-g-eq1 v ↦ bit_in w 64 c.loop-g.g c.loop-g.sum c.if-g-eq1.sum c.loop-g.x c.double-x.result _ h (omega arith) (v.sum_is ∙ v.xor-sum.ensures) c.double-x.ensures c.loop-g.invariant.1
-        | else-g-eq1 v ↦ bit_out w 64 c.loop-g.g c.loop-g.sum c.if-g-eq1.sum c.loop-g.x c.double-x.result _ h (omega arith) v.sum_is c.double-x.ensures c.loop-g.invariant.1
+        | then-g-eq1 v ↦ bit_in w 64 c.loop-g.g c.loop-g.sum c.if-g-eq1.sum c.loop-g.x c.double-x.result _ h (omega arith) (v.sum-is ∙ v.xor-sum.ensures) c.double-x.ensures c.loop-g.invariant.1
+        | else-g-eq1 v ↦ bit_out w 64 c.loop-g.g c.loop-g.sum c.if-g-eq1.sum c.loop-g.x c.double-x.result _ h (omega arith) v.sum-is c.double-x.ensures c.loop-g.invariant.1
       ],
     )
 

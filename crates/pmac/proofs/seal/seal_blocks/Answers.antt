@@ -10,7 +10,7 @@ use Rattle.pmac.proofs.seal.seal_blocks.Goals as goal
 
 pub loop-i-init : goal.loop-i-init
 loop-i-init g c =
-    let A = g.Block.Block.arith in
+    let A = g.E.Block.Block.arith in
     let m = g.E.Engine.means c.args.engine.now in
     let none : c.args.from - c.args.from ≡ 0 = omega arith in
     let f = stored A m.enc c.args.l c.args.memory.now in
@@ -18,12 +18,12 @@ loop-i-init g c =
 
 pub seal_block-requires : goal.seal_block-requires
 seal_block-requires g c =
-    (omega arith, inner c.loop-i.i c.args.to g.Block.Block.arith.size _ c.loop-i-test.true (omega arith))
+    (omega arith, inner c.loop-i.i c.args.to g.E.Block.Block.arith.size _ c.loop-i-test.true (omega arith))
 
 pub loop-i-preserved : goal.loop-i-preserved
 loop-i-preserved g c =
-    let A = g.Block.Block.arith in
-    let w = g.met.Block.Block.laws in
+    let A = g.E.Block.Block.arith in
+    let w = g.met.E.Block.Block.laws in
     let m = g.E.Engine.means c.args.engine.now in
     let k = g.E.Engine.means c.loop-i.engine in
     let i = c.loop-i.i in
@@ -34,8 +34,8 @@ loop-i-preserved g c =
     let left : i - a < m.left = omega arith in
     let up : i + 1 - a ≡ i - a + 1 = omega arith in
     let at = next_offset w m.enc c.args.memory.now c.args.l a i from some fits c.loop-i.at c.xor-at.result c.doubled.result c.loop-i.invariant.0 c.doubled.ensures c.xor-at.ensures in
-    let y = asked_ok (λ z. z.enc) (λ _ _. refl) m k (i - a) (A.plus (held A c.args.memory.now i) c.xor-at.result) c.seal_block.result c.loop-i.invariant.2 left c.seal_block.ensures.answer c.in-ok-y.y c.in-ok-y.was in (
+    let y = asked_ok (λ z. z.enc) (λ _ _. refl) m k (i - a) (A.plus (held A c.args.memory.now i) c.xor-at.result) c.seal_block.result c.loop-i.invariant.2 left c.seal_block.ensures.answer c.in_ok-y.y c.in_ok-y.was in (
       at,
-      next_sum w m.enc c.args.memory.now c.args.l a i from some fits c.loop-i.sum c.xor-sum.result c.in-ok-y.y c.xor-at.result c.loop-i.invariant.1 at y c.xor-sum.ensures,
+      next_sum w m.enc c.args.memory.now c.args.l a i from some fits c.loop-i.sum c.xor-sum.result c.in_ok-y.y c.xor-at.result c.loop-i.invariant.1 at y c.xor-sum.ensures,
       spent_on m k (g.E.Engine.means c.seal_block.new.engine) (i - a) 1 (i + 1 - a) c.loop-i.invariant.2 c.seal_block.ensures.after up,
     )

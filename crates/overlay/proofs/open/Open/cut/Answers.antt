@@ -8,5 +8,5 @@ pub returns : goal.returns
 returns g c =
     let v = world g.E.Engine.means c.args.self.now c.args.memory.now [] in
     let a = seen c.of.result (world g.E.Engine.means c.cut_blocks.new.self c.args.memory.now []) in
-    let e : a ≡ cut g.Block.Block.arith v c.args.count = search rules in
-    record { after = e; law = cut_law g.met.Block.Block.laws v _ a e }
+    let e : a ≡ cut g.E.Block.Block.arith v c.args.count = search rules in
+    record { after = e; law = cut_law g.met.E.Block.Block.laws v _ a e }

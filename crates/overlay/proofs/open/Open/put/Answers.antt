@@ -8,5 +8,5 @@ pub returns : goal.returns
 returns g c =
     let v = world g.E.Engine.means c.args.self.now c.args.memory.now [] in
     let a = seen c.of.result (world g.E.Engine.means c.put_blocks.new.self c.put_blocks.new.memory []) in
-    let e : a ≡ put g.Block.Block.arith v c.args.position c.args.edit.now c.args.count = search rules in
-    record { after = e; law = put_law g.met.Block.Block.laws v _ _ _ a e }
+    let e : a ≡ put g.E.Block.Block.arith v c.args.position c.args.edit.now c.args.count = search rules in
+    record { after = e; law = put_law g.met.E.Block.Block.laws v _ _ _ a e }
