@@ -34,7 +34,7 @@ put_tests size b pos bytes n = (misfits size b, 2) ∷ (nat_lt (8 * bytes) n, 3)
 module _ {B : Type 0} (A : Arith B) where
   -- of a tag to be worked out, and of one to be checked
   abbrev pub tag_tests : ℕ → ℕ → ℕ → List (Bool × ℕ)
-  tag_tests size b bytes = (misfits size b, 2) ∷ (not (taggable bytes), 6) ∷ []
+  tag_tests size b bytes = (misfits size b, 2) ∷ (not (taggable A bytes), 6) ∷ []
 
   -- no whole block i lies within b bits: i is 0 or over m, or the last block is short
   abbrev pub missing : ℕ → ℕ → Bool

@@ -12,9 +12,9 @@ use engine::Engine;
 impl<E: Engine> Open<E> {
     // An empty overlay over `engine`; a refusal gives the engine back.
     pub fn new(mut engine: E, memory: &[u8]) -> Opened<E>
-        ensures after { started E.Engine.means Block-as-Block.arith result.outcome result.slip.count ≡ begin Block-as-Block.arith (E.Engine.means engine) memory.now }
+        ensures after { started E.Engine.means E.Block.Block.arith result.outcome result.slip.count ≡ begin E.Block.Block.arith (E.Engine.means engine) memory.now }
         ensures back { Returned result.outcome engine }
-        ensures law { Opens Block-as-Block.arith (started E.Engine.means Block-as-Block.arith result.outcome result.slip.count) }
+        ensures law { Opens E.Block.Block.arith (started E.Engine.means E.Block.Block.arith result.outcome result.slip.count) }
     {
         if let Err(fault) = judge::fit(memory, 0) {
             return Opened {

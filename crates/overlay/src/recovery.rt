@@ -11,7 +11,7 @@ use engine::Engine;
 impl<E: Engine> Received<E> {
     // The memory's first `bits` bits over `engine`, which is asked nothing; a refusal gives it back.
     pub fn new(engine: E, bits: u32, memory: &[u8]) -> Taken<E>
-        ensures after { taken E.Engine.means result.outcome result.slip.count ≡ receive_of Block-as-Block.arith (E.Engine.means engine) memory.now bits }
+        ensures after { taken E.Engine.means result.outcome result.slip.count ≡ receive_of E.Block.Block.arith (E.Engine.means engine) memory.now bits }
         ensures back { Returned result.outcome engine }
         ensures free { result.slip.count ≡ 0 }
     {
@@ -27,7 +27,7 @@ impl<E: Engine> Received<E> {
 
     // Opens the overlay if `tag` is its tag's first bytes.
     pub fn check(mut self, memory: &[u8], tag: &[u8]) -> Checked<E>
-        ensures after { found E.Engine.means result.outcome result.slip.count ≡ check_of Block-as-Block.arith (arrived E.Engine.means self) memory.now tag.now }
+        ensures after { found E.Engine.means result.outcome result.slip.count ≡ check_of E.Block.Block.arith (arrived E.Engine.means self) memory.now tag.now }
     {
         match self.examine(memory, tag) {
             Ok(Examined { sealed, due, right }) => {
