@@ -12,12 +12,12 @@ use Rattle.pmac.specs.Prices.{add_due, cut_due, put_due}
 use Rattle.pmac.specs.Recovery.{placed, recovered}
 use Rattle.pmac.proofs.Prices.{prices}
 use Rattle.pmac.proofs.Recovery.{recoveries, one_block}
-use Rattle.overlay.specs.Refusals.{carried, refused}
-use Rattle.overlay.specs.Judging.{judged, numbered, missing, add_tests, cut_tests, put_tests, tag_tests, recover_tests, whole_due}
-use Rattle.overlay.specs.Calls.{same}
+use Rattle.overlay.specs.Refusals.{carried, refused, numbered}
+use Rattle.overlay.specs.Judging.{judged, missing, add_tests, cut_tests, put_tests, tag_tests, recover_tests, whole_due}
 use Rattle.overlay.proofs.Laws.{Passes, judged_by, cut_fair, put_fair}
 use Rattle.history.specs.Reckoning.{Call, checks, recovers, adds, cuts, puts, tags, books, Answer, silent, says, Phase, returned, received, opened, Reckoning, Verdict, untaken, refusal, wrong, granted}
 use Rattle.history.specs.Reckoning.{cost, total as sum_of, worth, when_open, when_received, booking, paid, next, tag_of, verdict, Becomes, given, Goes, Step, bound, Total, Deterministic, Balanced, Fair}
+use Rattle.overlay.specs.Receiving.{same}
 
 -- ---- what holds of a call that is not taken, of every refusal, and of the call carried out where every test passed and left suffices
 open_by : (P : Verdict → Type 0) (phase : Phase) (left : ℕ) (ts : List (Bool × ℕ)) (due : ℕ) (done : Verdict) → P untaken → ((x : Refusal) → P (refusal x))

@@ -17,15 +17,16 @@ use Rattle.pmac.specs.Prices.{add_due, cut_due, put_due}
 use Rattle.pmac.specs.Recovery.{placed, recovered}
 use Rattle.pmac.proofs.Places.{places}
 use Rattle.pmac.proofs.Recovery.{recoveries}
-use Rattle.overlay.specs.Refusals.{Outcome, carried, refused}
-use Rattle.overlay.specs.Judging.{judged, numbered, misfits, open_tests, add_tests, cut_tests, put_tests, tag_tests, recover_tests, taggable, missing, whole_due}
+use Rattle.overlay.specs.Refusals.{Outcome, carried, refused, numbered}
+use Rattle.overlay.specs.Judging.{judged, misfits, open_tests, add_tests, cut_tests, put_tests, tag_tests, recover_tests, missing, whole_due}
 use Rattle.overlay.specs.Ledger.{Booked, book, at}
-use Rattle.overlay.specs.Calls.{State, Arrived, World, After, Start, begun, back, Checked, turned, stays, sent, did, same, begin, receive, check, checked, recover, recover_done, add, add_done, cut, cut_done, put, put_done, tag, tag_done}
+use Rattle.overlay.specs.Calls.{State, World, After, Start, begun, back, sent, begin, add, add_done, cut, cut_done, put, put_done, tag, tag_done, taggable}
 use Rattle.overlay.specs.Laws.{Stands, then}
 use Rattle.overlay.specs.declared.ledger.Account.{Account}
 use Rattle.overlay.proofs.Laws.{Passes, length_standing, cut_stands, add_stands, put_stands, tag_stands, tagged, sum_none}
 use Rattle.history.specs.Reckoning.{Beginning, opens, receives, Call, checks, recovers, adds, cuts, puts, tags, books, Answer, silent, says, Phase, returned, received, opened, Reckoning, Verdict, untaken, refusal, wrong, granted, when_open, when_received, booking, paid, next, tag_of, verdict, Becomes, given, Goes, Step, beginning}
-use Rattle.history.specs.Desk.{Kept, engine, arrival, open_one, Desk, Turn, Moved, Entered, totals, booked_at, blank, moved, after, after_tag, after_check, on_open, on_received, on_overlay, called, entered, started, after_start, Shows, StandsFor, Follows, Reckons}
+use Rattle.history.specs.Desk.{after_receipt, Kept, engine, arrival, open_one, Desk, Turn, Moved, Entered, totals, booked_at, blank, moved, after, after_tag, after_check, on_open, on_received, on_overlay, called, entered, started, after_start, Shows, StandsFor, Follows, Reckons}
+use Rattle.overlay.specs.Receiving.{Receipt, Arrived, Checked, turned, stays, did, same, receive, check, checked, recover, recover_done}
 
 -- two answers by the same tests
 module _ {R S : Type 0} (P : R → S → Type 0) where
@@ -453,7 +454,7 @@ module _ {B : Type 0} {A : Arith B} (w : arithmetic.Laws A) (m : Meaning B) (mem
 
   pub starts : (b : Beginning) → Starts (started A b m memory) (beginning A m.enc (length memory) b m.left (totals accounts) slips (bits_of memory))
   starts opens =
-      let P : Start B (State B) → (Answer × Reckoning) → Type 0 = λ s p. Starts (after_start open_one memory s) p in
+      let P : Start A → (Answer × Reckoning) → Type 0 = λ s p. Starts (after_start memory s) p in
       judged_both P (λ r. back m r 0) (λ x. (says (refused x) [], record { phase = returned; bits = []; left = m.left; totals = totals accounts; slips = slips ++ (0 ∷ []) })) m.left (open_tests (length memory)) 1 _ _
       (λ x. comes_back x)
       (λ _ l. (
@@ -467,7 +468,7 @@ module _ {B : Type 0} {A : Arith B} (w : arithmetic.Laws A) (m : Meaning B) (mem
         },
       ))
   starts (receives b) =
-      let P : Start B (Arrived B) → (Answer × Reckoning) → Type 0 = λ s p. Starts (after_start arrival memory s) p in
+      let P : Receipt B → (Answer × Reckoning) → Type 0 = λ s p. Starts (after_receipt memory s) p in
       both P (misfits (length memory) b) _ _ _ _ (λ _. comes_back (numbered 2))
       (λ e. (
         refl,

@@ -7,10 +7,11 @@ use Rattle.engine.specs.Refusals.{Refusal}
 use Rattle.engine.specs.Meaning.{Meaning}
 use Rattle.overlay.specs.Refusals.{Outcome, carried, refused}
 use Rattle.overlay.specs.Ledger.{Booked, book}
-use Rattle.overlay.specs.Calls.{State, Arrived, World, After, Start, begun, back, Checked, turned, stays, begin, receive, check, recover, add, cut, put, tag}
+use Rattle.overlay.specs.Calls.{State, World, After, Start, begun, back, begin, add, cut, put, tag}
 use Rattle.overlay.specs.Laws.{Stands, then}
 use Rattle.overlay.specs.declared.ledger.Account.{Account}
 use Rattle.history.specs.Reckoning.{Beginning, opens, receives, Call, checks, recovers, adds, cuts, puts, tags, books, Answer, silent, says, Phase, returned, received, opened, Reckoning, Step, Reply, Tells, Run, ends, beginning, total, Conserved}
+use Rattle.overlay.specs.Receiving.{Receipt, took, declined, Arrived, Checked, turned, stays, receive, check, recover}
 
 -- an overlay in one of its states
 pub data Kept (B : Type 0) : Type 0 where
@@ -77,10 +78,14 @@ module _ {B : Type 0} where
   after_check memory (turned s n) = turn carried [] (open_one s) memory n
   after_check memory (stays h r n) = turn (refused r) [] (arrival h) memory n
 
-  -- after open or receive
-  abbrev pub after_start : {S : Type 0} → (S → Kept B) → List ℕ → Start B S → Turn B
-  after_start keep memory (begun s n) = turn carried [] (keep s) memory n
-  after_start keep memory (back m r n) = turn (refused r) [] (engine m) memory n
+  -- after open, and after receive
+  abbrev pub after_start : {A : Arith B} → List ℕ → Start A → Turn B
+  after_start memory (begun s n) = turn carried [] (open_one s) memory n
+  after_start memory (back m r n) = turn (refused r) [] (engine m) memory n
+
+  abbrev pub after_receipt : List ℕ → Receipt B → Turn B
+  after_receipt memory (took h n) = turn carried [] (arrival h) memory n
+  after_receipt memory (declined m r n) = turn (refused r) [] (engine m) memory n
 
   -- what an overlay tells of itself
   abbrev pub bits_in : Kept B → ℕ
@@ -140,8 +145,8 @@ module _ {B : Type 0} (A : Arith B) where
 
   -- open and receive
   abbrev pub started : Beginning → Meaning B → List ℕ → Turn B
-  started opens m memory = after_start open_one memory (begin A m memory)
-  started (receives b) m memory = after_start arrival memory (receive A m memory b)
+  started opens m memory = after_start memory (begin A m memory)
+  started (receives b) m memory = after_receipt memory (receive A m memory b)
 
   -- calls one after the other, on all of a desk
   abbrev pub ran : Desk B → List Call → Desk B

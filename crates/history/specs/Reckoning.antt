@@ -9,9 +9,9 @@ use Rattle.engine.specs.Meaning.{Meaning, Undoes}
 use Rattle.pmac.specs.Pmac.{full}
 use Rattle.pmac.specs.Prices.{add_due, cut_due, put_due, edit_bound, put_bound}
 use Rattle.pmac.specs.Recovery.{placed}
-use Rattle.overlay.specs.Refusals.{Outcome, carried, refused}
-use Rattle.overlay.specs.Judging.{judged, numbered, misfits, open_tests, add_tests, cut_tests, put_tests, tag_tests, recover_tests, whole_due}
-use Rattle.overlay.specs.Calls.{same}
+use Rattle.overlay.specs.Refusals.{Outcome, carried, refused, numbered}
+use Rattle.overlay.specs.Judging.{judged, misfits, open_tests, add_tests, cut_tests, put_tests, tag_tests, recover_tests, whole_due}
+use Rattle.overlay.specs.Receiving.{same}
 
 -- how a history begins
 pub data Beginning : Type 0 where

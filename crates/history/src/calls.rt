@@ -1,10 +1,11 @@
 // One call on an overlay, by the public calls of `overlay`.
 ghost use Rattle.std.specs.Prelude.{◌≡◌, [], take, vec_len, vec_capacity};
 ghost use Rattle.overlay.specs.Views.{state, arrived, world};
-ghost use Rattle.overlay.specs.Calls.{check as check_of, tag as tag_of};
+ghost use Rattle.overlay.specs.Calls.{tag as tag_of};
 ghost use Rattle.history.specs.Desk.{Reckons, after_check, after_tag, blank, booked_at, called, on_open, on_received, turn, untouched};
 ghost use Rattle.history.specs.Views.{answer_of, call_of, desk_of, kept, moved_of, outcome_of, shown, turn_of};
 ghost use Rattle.overlay.specs.Refusals.{outcome as overlay_outcome, booking_outcome};
+ghost use Rattle.overlay.specs.Receiving.{check as check_of};
 
 use crate::tag::{Tagged, tag_bytes};
 use crate::{Call, CallFault, Said, Stage, Stepped, TagBytes};
@@ -40,7 +41,7 @@ pub(crate) fn answered<E: Engine>(stage: Stage<E>, answer: Answer, tag: TagBytes
 
 // A call of an open overlay.
 fn on_open<E: Engine>(mut opened: Open<E>, memory: &mut [u8], call: &Call<'_>) -> Stepped<E>
-    ensures { turn_of E.Engine.means result memory.new ≡ «on_open» Block-as-Block.arith (state E.Engine.means opened) memory.old (call_of call.now) }
+    ensures { turn_of E.Engine.means result memory.new ≡ «on_open» E.Block.Block.arith (state E.Engine.means opened) memory.old (call_of call.now) }
 {
     match call {
         Call::Add { edit, count } => {
@@ -66,7 +67,7 @@ fn on_open<E: Engine>(mut opened: Open<E>, memory: &mut [u8], call: &Call<'_>) -
 
 // A tag of an open overlay.
 fn tag_of<E: Engine>(mut opened: Open<E>, memory: &[u8], bytes: usize) -> Stepped<E>
-    ensures { turn_of E.Engine.means result memory.now ≡ «after_tag» (tag_of Block-as-Block.arith (world E.Engine.means opened memory.now (blank bytes))) }
+    ensures { turn_of E.Engine.means result memory.now ≡ «after_tag» (tag_of E.Block.Block.arith (world E.Engine.means opened memory.now (blank bytes))) }
 {
     let Tagged { answer, tag } = tag_bytes(&mut opened, memory, bytes);
     answered(Stage::Opened(opened), answer, tag)
@@ -78,7 +79,7 @@ fn on_received<E: Engine>(
     memory: &mut [u8],
     call: &Call<'_>,
 ) -> Stepped<E>
-    ensures { turn_of E.Engine.means result memory.new ≡ «on_received» Block-as-Block.arith (arrived E.Engine.means received) memory.old (call_of call.now) }
+    ensures { turn_of E.Engine.means result memory.new ≡ «on_received» E.Block.Block.arith (arrived E.Engine.means received) memory.old (call_of call.now) }
 {
     match call {
         Call::Check { tag } => check(received, memory, tag),
@@ -92,7 +93,7 @@ fn on_received<E: Engine>(
 
 // A check: a right tag opens the overlay.
 fn check<E: Engine>(received: Received<E>, memory: &[u8], tag: &[u8]) -> Stepped<E>
-    ensures { turn_of E.Engine.means result memory.now ≡ «after_check» memory.now (check_of Block-as-Block.arith (arrived E.Engine.means received) memory.now tag.now) }
+    ensures { turn_of E.Engine.means result memory.now ≡ «after_check» memory.now (check_of E.Block.Block.arith (arrived E.Engine.means received) memory.now tag.now) }
 {
     let Checked { outcome, slip } = received.check(memory, tag);
     let tag = TagBytes::none();
@@ -151,7 +152,7 @@ fn move_on<E: Engine>(
     slips: &mut Vec<Slip>,
     call: &Call<'_>,
 ) -> Stepped<E>
-    ensures after { moved_of E.Engine.means result memory.new ledger.new.accounts slips.new.items ≡ called Block-as-Block.arith (desk_of E.Engine.means stage memory.old ledger.old.accounts slips.old.items) (call_of call.now) }
+    ensures after { moved_of E.Engine.means result memory.new ledger.new.accounts slips.new.items ≡ called E.Block.Block.arith (desk_of E.Engine.means stage memory.old ledger.old.accounts slips.old.items) (call_of call.now) }
     ensures room { (vec_len slips.new ≡ vec_len slips.old) × (vec_capacity slips.new ≡ vec_capacity slips.old) }
 {
     if let Call::Book { slip, account } = call {
@@ -178,8 +179,8 @@ pub fn step<E: Engine>(
     slips: &mut Vec<Slip>,
     call: &Call<'_>,
 ) -> Stepped<E>
-    ensures after { moved_of E.Engine.means result memory.new ledger.new.accounts slips.new.items ≡ called Block-as-Block.arith (desk_of E.Engine.means stage memory.old ledger.old.accounts slips.old.items) (call_of call.now) }
-    ensures law { Reckons Block-as-Block.arith (desk_of E.Engine.means stage memory.old ledger.old.accounts slips.old.items) (call_of call.now) (moved_of E.Engine.means result memory.new ledger.new.accounts slips.new.items) }
+    ensures after { moved_of E.Engine.means result memory.new ledger.new.accounts slips.new.items ≡ called E.Block.Block.arith (desk_of E.Engine.means stage memory.old ledger.old.accounts slips.old.items) (call_of call.now) }
+    ensures law { Reckons E.Block.Block.arith (desk_of E.Engine.means stage memory.old ledger.old.accounts slips.old.items) (call_of call.now) (moved_of E.Engine.means result memory.new ledger.new.accounts slips.new.items) }
     ensures room { (vec_len slips.new ≡ vec_len slips.old) × (vec_capacity slips.new ≡ vec_capacity slips.old) }
 {
     move_on(stage, memory, ledger, slips, call)

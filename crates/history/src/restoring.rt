@@ -19,9 +19,9 @@ pub fn restore<E: Engine>(
     tag: &[u8],
     number: u32,
 ) -> Stepped<E>
-    ensures after { turn_of E.Engine.means result memory.new ≡ restoring_of Block-as-Block.arith (E.Engine.means engine) memory.old bits tag.now number }
-    ensures law { Restores Block-as-Block.arith (E.Engine.means engine) memory.old bits tag.now number (turn_of E.Engine.means result memory.new) }
-    ensures one_block { OneBlock Block-as-Block.arith }
+    ensures after { turn_of E.Engine.means result memory.new ≡ restoring_of E.Block.Block.arith (E.Engine.means engine) memory.old bits tag.now number }
+    ensures law { Restores E.Block.Block.arith (E.Engine.means engine) memory.old bits tag.now number (turn_of E.Engine.means result memory.new) }
+    ensures one_block { OneBlock E.Block.Block.arith }
 {
     write_anew(engine, bits, memory, tag, number)
 }
@@ -34,7 +34,7 @@ fn write_anew<E: Engine>(
     tag: &[u8],
     number: u32,
 ) -> Stepped<E>
-    ensures { turn_of E.Engine.means result memory.new ≡ restoring_of Block-as-Block.arith (E.Engine.means engine) memory.old bits tag.now number }
+    ensures { turn_of E.Engine.means result memory.new ≡ restoring_of E.Block.Block.arith (E.Engine.means engine) memory.old bits tag.now number }
 {
     let Taken { outcome, slip } = Received::new(engine, bits, memory);
     match outcome {

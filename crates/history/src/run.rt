@@ -40,7 +40,7 @@ pub(crate) fn refused<E: Engine>(back: Refused<E>, slip: Slip) -> Stepped<E>
 
 // Open or receive.
 fn begin<E: Engine>(beginning: Beginning, engine: E, memory: &[u8]) -> Stepped<E>
-    ensures { turn_of E.Engine.means result memory.now ≡ started_of Block-as-Block.arith (beginning_of beginning) (E.Engine.means engine) memory.now }
+    ensures { turn_of E.Engine.means result memory.now ≡ started_of E.Block.Block.arith (beginning_of beginning) (E.Engine.means engine) memory.now }
 {
     match beginning {
         Beginning::Opening => {
@@ -99,8 +99,8 @@ fn advance<E: Engine>(
     call: &Call<'_>,
 ) -> Stage<E>
     requires { (vec_len slips.old < vec_capacity slips.old) × (vec_len replies.old < vec_capacity replies.old) }
-    ensures after { desk_of E.Engine.means result memory.new ledger.new.accounts slips.new.items ≡ (called Block-as-Block.arith (desk_of E.Engine.means stage memory.old ledger.old.accounts slips.old.items) (call_of call.now)).desk }
-    ensures told { (x : CodeReply) × ((replies.new.items ≡ replies.old.items ++ (x ∷ [])) × Advances Block-as-Block.arith (desk_of E.Engine.means stage memory.old ledger.old.accounts slips.old.items) (call_of call.now) (reply_of x) (desk_of E.Engine.means result memory.new ledger.new.accounts slips.new.items)) }
+    ensures after { desk_of E.Engine.means result memory.new ledger.new.accounts slips.new.items ≡ (called E.Block.Block.arith (desk_of E.Engine.means stage memory.old ledger.old.accounts slips.old.items) (call_of call.now)).desk }
+    ensures told { (x : CodeReply) × ((replies.new.items ≡ replies.old.items ++ (x ∷ [])) × Advances E.Block.Block.arith (desk_of E.Engine.means stage memory.old ledger.old.accounts slips.old.items) (call_of call.now) (reply_of x) (desk_of E.Engine.means result memory.new ledger.new.accounts slips.new.items)) }
     ensures room { (vec_len slips.new ≤ vec_len slips.old + 1) × (vec_capacity slips.new ≡ vec_capacity slips.old) }
     ensures space { (vec_len replies.new ≡ vec_len replies.old + 1) × (vec_capacity replies.new ≡ vec_capacity replies.old) }
 {
@@ -118,8 +118,8 @@ fn resume<E: Engine>(
     calls: &[Call<'_>],
 ) -> Stage<E>
     requires { (vec_len slips.old + length calls.now ≤ vec_capacity slips.old) × (vec_len replies.old + length calls.now ≤ vec_capacity replies.old) }
-    ensures after { desk_of E.Engine.means result memory.new ledger.new.accounts slips.new.items ≡ ran Block-as-Block.arith (desk_of E.Engine.means stage memory.old ledger.old.accounts slips.old.items) (calls_of calls.now) }
-    ensures told { (xs : List CodeReply) × ((replies.new.items ≡ replies.old.items ++ xs) × Runs Block-as-Block.arith (desk_of E.Engine.means stage memory.old ledger.old.accounts slips.old.items) (calls_of calls.now) (replies_of xs) (desk_of E.Engine.means result memory.new ledger.new.accounts slips.new.items)) }
+    ensures after { desk_of E.Engine.means result memory.new ledger.new.accounts slips.new.items ≡ ran E.Block.Block.arith (desk_of E.Engine.means stage memory.old ledger.old.accounts slips.old.items) (calls_of calls.now) }
+    ensures told { (xs : List CodeReply) × ((replies.new.items ≡ replies.old.items ++ xs) × Runs E.Block.Block.arith (desk_of E.Engine.means stage memory.old ledger.old.accounts slips.old.items) (calls_of calls.now) (replies_of xs) (desk_of E.Engine.means result memory.new ledger.new.accounts slips.new.items)) }
 {
     for call in calls {
         stage = advance(stage, memory, ledger, slips, replies, call);
@@ -138,7 +138,7 @@ pub fn replay<E: Engine>(
     replies: &mut Vec<Reply>,
     calls: &[Call<'_>],
 ) -> Result<Stage<E>, E>
-    ensures history { Replayed E.Engine.means Block-as-Block.arith result engine (beginning_of beginning) (calls_of calls.now) memory.old memory.new ledger.old.accounts ledger.new.accounts slips.old.items slips.new.items replies.old.items replies.new.items }
+    ensures history { Replayed E.Engine.means E.Block.Block.arith result engine (beginning_of beginning) (calls_of calls.now) memory.old memory.new ledger.old.accounts ledger.new.accounts slips.old.items slips.new.items replies.old.items replies.new.items }
     ensures succeeds { vec_len slips.old + (length calls.now + 1) ≤ vec_capacity slips.old → vec_len replies.old + (length calls.now + 1) ≤ vec_capacity replies.old → is_ok result ≡ true }
 {
     let count = calls.len() + 1;

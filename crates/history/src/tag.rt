@@ -36,7 +36,7 @@ pub(crate) struct Tagged {
 
 // A tag of so many bytes. The buffer is one byte longer than any tag: a longer one is refused alike.
 pub(crate) fn tag_bytes<E: Engine>(overlay: &mut Open<E>, memory: &[u8], bytes: usize) -> Tagged
-    ensures after { seen result.answer (world E.Engine.means overlay.new memory.now (take (min bytes 17) result.tag.buffer)) ≡ tag_of Block-as-Block.arith (world E.Engine.means overlay.old memory.now (blank bytes)) }
+    ensures after { seen result.answer (world E.Engine.means overlay.new memory.now (take (min bytes 17) result.tag.buffer)) ≡ tag_of E.Block.Block.arith (world E.Engine.means overlay.old memory.now (blank bytes)) }
     ensures given { take result.tag.length result.tag.buffer ≡ then (outcome_of result.answer.outcome) (take (min bytes 17) result.tag.buffer) [] }
 {
     let mut buffer = [0u8; 17];

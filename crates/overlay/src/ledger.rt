@@ -1,5 +1,5 @@
 // The accounts into which slips are booked.
-ghost use Rattle.std.specs.Prelude.{◌≡◌, true, is_ok};
+ghost use Rattle.std.specs.Prelude.{◌≡◌, true, is_ok, length};
 ghost use Rattle.overlay.specs.Ledger.{opened, held, takes, entered, book as book_of};
 ghost use Rattle.overlay.specs.Views.{booked};
 
@@ -44,6 +44,7 @@ impl Account {
 #[derive(Drop)]
 pub struct Ledger {
     accounts: [Account; 16],
+    ghost sixteen: { length accounts ≡ 16 },
 }
 
 impl Ledger {

@@ -22,5 +22,5 @@ returns c =
     let made : Entered = record { answer = says b.outcome []; accounts = b.accounts; slips = shown (set v.items c.args.slip s) } in
     let e =
     ap₂ (λ x y. record { answer = says x y; accounts = b.accounts; slips = made.slips }) c.said_of.ensures.outcome c.said_of.ensures.untagged
-    ∙ entered_at c.args.ledger.now.accounts v.items c.args.slip c.args.account c.index-mut.result.now b s (omega arith) (search rules) c.book-booked.ensures.after refl in
+    ∙ entered_at c.args.ledger.now.accounts v.items c.args.slip c.args.account c.index_mut.result.now b s (omega arith) (search rules) c.book-booked.ensures.after refl in
     record { after = e; room = (refl, refl) }

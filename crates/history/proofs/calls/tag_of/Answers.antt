@@ -7,7 +7,7 @@ use Rattle.history.proofs.calls.tag_of.Goals as goal
 pub returns : goal.returns
 returns g c =
     let memory = c.args.memory.now in
-    let of : Turn g.E.Block.Denot → Turn g.E.Block.Denot = λ t. record { answer = t.answer; overlay = t.overlay; memory = memory; slip = t.slip } in
+    let of : Turn g.row.E-Block.Denot → Turn g.row.E-Block.Denot = λ t. record { answer = t.answer; overlay = t.overlay; memory = memory; slip = t.slip } in
     ap of c.answered.ensures
     ∙ ap (λ z. turn (outcome c.tag_bytes.result.answer.outcome) z (open_one (state g.E.Engine.means c.tag_bytes.new.overlay)) memory c.tag_bytes.result.answer.slip.count) c.tag_bytes.ensures.given
     ∙ ap after_tag c.tag_bytes.ensures.after

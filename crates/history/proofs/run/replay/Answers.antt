@@ -19,7 +19,7 @@ returns g c =
     let kept-slips : shown (vec_items c.note-stage.new.slips) ≡ slips ++ slip_of s.slip = c.note-stage.ensures.slips ∙ ap (λ z. shown z ++ slip_of s.slip) c.reserve.ensures.items in
     let ed : d ≡ record { overlay = kept means s.stage; memory = memory; accounts = accounts; slips = slips ++ slip_of s.slip } =
     ap₂ (λ y z. record { overlay = kept means y; memory = memory; accounts = accounts; slips = z }) c.note-stage.ensures.stage kept-slips in
-    let at : Turn g.E.Block.Denot → Desk g.E.Block.Denot = λ t. record { overlay = t.overlay; memory = t.memory; accounts = accounts; slips = slips ++ t.slip } in
+    let at : Turn g.row.E-Block.Denot → Desk g.row.E-Block.Denot = λ t. record { overlay = t.overlay; memory = t.memory; accounts = accounts; slips = slips ++ t.slip } in
     record {
       history = (
         c.resume.ensures.after ∙ ap (λ z. ran g.E.Block.Block.arith z (calls_of c.args.calls.now)) (ed ∙ ap at c.begin-begun.ensures),

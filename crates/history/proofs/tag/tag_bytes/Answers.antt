@@ -11,12 +11,12 @@ pub returns-in-Ok : goal.returns-in-Ok
 returns-in-Ok g c =
     let n = c.min-length.result in
     let em : n ≡ min c.args.bytes 17 = c.min-length.ensures in
-    let buf = c.tag_answer.new.buffer in
-    let long : length buf ≡ min c.args.bytes 17 = c.tag_answer.auto.buffer ∙ length-take-le n (replicate 17 0) (omega arith) ∙ em in
+    let buf = c.tag-answer.new.buffer in
+    let long : length buf ≡ min c.args.bytes 17 = c.tag-answer.auto.buffer ∙ length-take-le n (replicate 17 0) (omega arith) ∙ em in
     let t = take_at buf (drop n (replicate 17 0)) (min c.args.bytes 17) long in
     record {
-      after = ap (λ z. seen c.tag_answer.result (world g.E.Engine.means c.tag_answer.new.self c.args.memory.now z)) t
-          ∙ c.tag_answer.ensures.after
+      after = ap (λ z. seen c.tag-answer.result (world g.E.Engine.means c.tag-answer.new.self c.args.memory.now z)) t
+          ∙ c.tag-answer.ensures.after
           ∙ ap (λ z. tag g.E.Block.Block.arith (world g.E.Engine.means c.args.overlay.now c.args.memory.now (take z (replicate 17 0)))) em;
       given = ap (λ z. take z (buf ++ drop n (replicate 17 0))) em ∙ sym (ap (λ o. then (outcome o) (take (min c.args.bytes 17) (buf ++ drop n (replicate 17 0))) []) c.in-Ok.is);
     }
@@ -25,12 +25,12 @@ pub returns-in-Err : goal.returns-in-Err
 returns-in-Err g c =
     let n = c.min-length.result in
     let em : n ≡ min c.args.bytes 17 = c.min-length.ensures in
-    let buf = c.tag_answer.new.buffer in
-    let long : length buf ≡ min c.args.bytes 17 = c.tag_answer.auto.buffer ∙ length-take-le n (replicate 17 0) (omega arith) ∙ em in
+    let buf = c.tag-answer.new.buffer in
+    let long : length buf ≡ min c.args.bytes 17 = c.tag-answer.auto.buffer ∙ length-take-le n (replicate 17 0) (omega arith) ∙ em in
     let t = take_at buf (drop n (replicate 17 0)) (min c.args.bytes 17) long in
     record {
-      after = ap (λ z. seen c.tag_answer.result (world g.E.Engine.means c.tag_answer.new.self c.args.memory.now z)) t
-          ∙ c.tag_answer.ensures.after
+      after = ap (λ z. seen c.tag-answer.result (world g.E.Engine.means c.tag-answer.new.self c.args.memory.now z)) t
+          ∙ c.tag-answer.ensures.after
           ∙ ap (λ z. tag g.E.Block.Block.arith (world g.E.Engine.means c.args.overlay.now c.args.memory.now (take z (replicate 17 0)))) em;
       given = sym (ap (λ o. then (outcome o) (take (min c.args.bytes 17) (buf ++ drop n (replicate 17 0))) []) c.in-Err.is);
     }
