@@ -1,5 +1,5 @@
 -- How many blocks b bits have. Assumes nothing.
-use Rattle.std.proofs.Common.{◌≡◌, ℕ, zero, suc, ◌+◌, ◌-◌, ◌*◌, ◌/◌, ◌%◌, ◌<◌, ◌≤◌, min, max, sym, refl, ap, ◌∙◌, subst, mul-le-mul_right, mod-lt, div-add-mod', div-mul-le_self, arith}
+use Rattle.std.proofs.Common.{◌≡◌, ℕ, zero, suc, ◌+◌, ◌-◌, ◌*◌, ◌/◌, ◌%◌, ◌<◌, ◌≤◌, min, max, sym, refl, ap, ◌∙◌, mul-le-mul_right, mod-lt, div-add-mod', div-mul-le_self, arith}
 use Rattle.std.proofs.lemmas.Nat.{div_below, le-div}
 use Rattle.block.specs.Arith.{Arith, Laws, width}
 use Rattle.bits.specs.Blocks.{blocks}

@@ -1,5 +1,5 @@
 -- Blocks of the bits that stand, read from the memory. Assumes nothing.
-use Rattle.std.proofs.Common.{◌≡◌, ℕ, ◌+◌, ◌-◌, ◌*◌, ◌<◌, ◌≤◌, Bool, true, false, eqb, List, length, take, drop, sym, refl, ap, ◌∙◌, ap₂, arith, eq-eqb, ne_eqb}
+use Rattle.std.proofs.Common.{◌≡◌, ℕ, ◌+◌, ◌-◌, ◌*◌, ◌<◌, ◌≤◌, true, false, List, length, take, drop, sym, ap, ◌∙◌, ap₂, arith, eq-eqb, ne_eqb}
 use Rattle.std.proofs.lemmas.List.{length-take-le, length-take, length-drop, take_all, drop-take, take_rest}
 use Rattle.block.specs.Bits.{bits_of}
 use Rattle.block.specs.Arith.{Arith, Laws, width}

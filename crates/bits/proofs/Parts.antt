@@ -1,7 +1,7 @@
 -- Blocks of bits. Assumes nothing.
-use Rattle.std.proofs.Common.{◌≡◌, ℕ, zero, suc, ◌+◌, ◌-◌, ◌*◌, ◌<◌, ◌≤◌, Bool, List, [], ◌∷◌, ◌++◌, length, take, drop, sym, refl, ap, ◌∙◌, ap₂, arith}
-use Rattle.std.proofs.lemmas.List.{drop-take, take-take, take_at, length-take-le, drop-drop}
-use Rattle.block.specs.Arith.{Arith, Laws, width}
+use Rattle.std.proofs.Common.{◌≡◌, ℕ, suc, ◌+◌, ◌-◌, ◌*◌, ◌≤◌, Bool, List, take, drop, sym, ap, ◌∙◌, arith}
+use Rattle.std.proofs.lemmas.List.{drop-take, take-take, drop-drop}
+use Rattle.block.specs.Arith.{Arith, width}
 use Rattle.bits.specs.Blocks.{part}
 
 -- what lies inside of a front

@@ -1,12 +1,12 @@
 -- Bits written into a memory, a byte at a time. Assumes nothing.
-use Rattle.std.proofs.Common.{◌≡◌, ℕ, zero, suc, ◌+◌, ◌-◌, ◌*◌, ◌/◌, ◌%◌, ◌^◌, ◌<◌, ◌≤◌, Bool, true, false, ◌⊎◌, List, [], ◌∷◌, ◌++◌, length, get_or, take, drop, set, sym, refl, ap, ◌∙◌, subst, ap₂, inl, inr, add-zero, arith, drop-cons, take-add}
+use Rattle.std.proofs.Common.{◌≡◌, ℕ, suc, ◌+◌, ◌-◌, ◌*◌, ◌/◌, ◌%◌, ◌^◌, ◌<◌, ◌≤◌, Bool, ◌⊎◌, List, ◌∷◌, ◌++◌, length, get_or, take, drop, set, sym, ap, ◌∙◌, subst, ap₂, inl, inr, arith, drop-cons, take-add}
 use lib.Seq.{paste, take-append-add, drop-append-add}
 use lib.Bits.{bit_or}
 use lib.Arith.{digits_lt}
 use Rattle.std.proofs.lemmas.Nat.{pow_pos, pow-add, shl_whole, one_shl, shr_below, shr_high, mod_low, mod_below, or_shifted}
-use Rattle.std.proofs.lemmas.List.{append_assoc, append-nil, length-append, length-take-le, length-drop, take-take, take-append-drop, take-append-le, drop-append-le, take_at, drop_at, drop-drop, drop_more, drop_all, set_split}
+use Rattle.std.proofs.lemmas.List.{append_assoc, length-append, length-take-le, length-drop, take-take, take-append-drop, take-append-le, drop-append-le, drop-drop, drop_more, set_split}
 use Rattle.std.proofs.lemmas.Bool.{cases_lt}
-use Rattle.std.proofs.lemmas.List.Edits.{paste-paste, length-paste}
+use Rattle.std.proofs.lemmas.List.Edits.{paste-paste}
 use Rattle.block.specs.Bits.{bits, bits_of}
 use Rattle.block.specs.BitsLemmas.{length_bits, bits_append, take_bits, bits_mod, length_bits_of, bits_of_append, bits_of_cons, take_bits_of, drop_bits, drop_bits_of}
 

@@ -1,7 +1,7 @@
 -- Bytes of a number as bits. Assumes nothing.
-use Rattle.std.proofs.Common.{◌≡◌, ℕ, zero, suc, ◌+◌, ◌-◌, ◌*◌, ◌/◌, ◌%◌, ◌^◌, ◌<◌, ◌≤◌, Bool, true, false, List, [], ◌∷◌, ◌++◌, length, get_or, take, drop, sym, refl, ap, ◌∙◌, ap₂, add-one, arith, take-suc}
+use Rattle.std.proofs.Common.{◌≡◌, ℕ, zero, suc, ◌+◌, ◌*◌, ◌/◌, ◌^◌, ◌<◌, ◌≤◌, Bool, List, [], ◌∷◌, ◌++◌, length, get_or, take, sym, refl, ap, ◌∙◌, ap₂, arith, take-suc}
 use Rattle.std.proofs.lemmas.Nat.{pow-add}
-use Rattle.std.proofs.lemmas.List.{length-append, take_all, take_at, drop_at, append-nil}
+use Rattle.std.proofs.lemmas.List.{length-append, take_all, append-nil}
 use Rattle.block.specs.Bits.{bits, number, digit, bits_of, bytes_of}
 use Rattle.block.specs.BitsLemmas.{length_bits, number_bits, bits_of_append, take_bits, drop_bits}
 use Rattle.block.specs.Width.{value_of, digits}

@@ -1,8 +1,8 @@
 -- Bits of numbers and of bytes. Assumes nothing.
-use Rattle.std.specs.Prelude.{◌≡◌, ℕ, zero, suc, ◌+◌, ◌-◌, ◌*◌, ◌/◌, ◌%◌, ◌^◌, ◌<◌, ◌≤◌, Bool, true, false, List, [], ◌∷◌, ◌++◌, length, take, drop, replicate, slice_index, refl}
-use Rattle.std.proofs.Common.{sym, ap, ap₂, subst, ◌∙◌, zero-add, suc-add, pow-suc, add-zero, one-add, add-one, arith}
+use Rattle.std.specs.Prelude.{◌≡◌, ℕ, zero, suc, ◌+◌, ◌*◌, ◌/◌, ◌%◌, ◌^◌, ◌<◌, ◌≤◌, Bool, true, false, List, [], ◌∷◌, ◌++◌, length, take, drop, replicate, slice_index, refl}
+use Rattle.std.proofs.Common.{sym, ap, ap₂, ◌∙◌, zero-add, suc-add, pow-suc, one-add, arith}
 use Rattle.std.proofs.lemmas.Nat.{pow_pos, shr-shr, shr_high, mod-pow-add, div_below}
-use Rattle.std.proofs.lemmas.List.{append_assoc, append-nil, length-append, length-take-le, length-drop, take-append-drop, take_at, drop_at, nil_from_length, replicate-append-replicate, take-append-le}
+use Rattle.std.proofs.lemmas.List.{append_assoc, length-append, length-take-le, length-drop, take-append-drop, take_at, drop_at, nil_from_length, replicate-append-replicate}
 use Rattle.block.specs.Bits.{bit, digit, bits, number, bits_of, bytes_of}
 
 bit_digit : (b : Bool) → bit (digit b) ≡ b

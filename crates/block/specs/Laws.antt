@@ -1,10 +1,10 @@
 -- The laws of blocks, once for every width whose blocks are the numbers below 2 ^ n. Assumes nothing.
-use Rattle.std.specs.Prelude.{◌≡◌, ℕ, ◌*◌, ◌%◌, ◌^◌, ◌<◌, ◌≤◌, Bool, List, length, bit_xor, refl}
+use Rattle.std.specs.Prelude.{◌≡◌, ℕ, ◌*◌, ◌%◌, ◌^◌, ◌<◌, ◌≤◌, bit_xor}
 use Rattle.std.proofs.Common.{sym, ap, ap₂, ◌∙◌, mod-eq_of_lt, pow_pos}
 use Rattle.std.proofs.lemmas.Nat.{xor_lt, xor_comm}
 use Rattle.std.specs.Int.Bits.{xor_assoc, xor_self, xor_zero_r}
 use Rattle.block.specs.Bits.{bits, number, bits_of, bytes_of}
-use Rattle.block.specs.Arith.{Arith, Laws, BytesReadBack, width}
+use Rattle.block.specs.Arith.{Arith, Laws, BytesReadBack}
 use Rattle.block.specs.Width.{doubled, halved, arith_of}
 use Rattle.block.specs.BitsLemmas.{length_bits, number_bits, bits_mod, bits_number, bits_zero, length_bits_of, bits_of_bytes_of, bytes_of_bits_of}
 use Rattle.block.specs.WidthLemmas.{Shifts}

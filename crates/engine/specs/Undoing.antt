@@ -1,5 +1,4 @@
 -- A mask's maps undo each other where those below do. Assumes nothing.
-use Rattle.std.specs.Prelude.{◌≡◌, ℕ}
 use Rattle.std.proofs.Common.{ap, ◌∙◌}
 use Rattle.block.specs.Arith.{Arith, Laws}
 use Rattle.block.proofs.Group.{twice}

@@ -1,18 +1,16 @@
 -- Whole histories: what is told of each call is what the reckoning says. Assumes nothing.
-use Rattle.std.proofs.Common.{◌≡◌, ℕ, zero, suc, ◌+◌, ◌-◌, ◌*◌, ◌<◌, ◌≤◌, Bool, true, false, cond, List, [], ◌∷◌, ◌++◌, length, get_or, take, sym, refl, ap, ◌∙◌, subst, ap₂, arith}
+use Rattle.std.proofs.Common.{◌≡◌, ℕ, suc, ◌+◌, ◌<◌, ◌≤◌, List, [], ◌∷◌, ◌++◌, length, get_or, take, sym, refl, ap, ◌∙◌, subst, arith}
 use Rattle.std.proofs.lemmas.List.{take_more, take_all}
 use Rattle.block.specs.Bits.{bits_of}
 use Rattle.block.specs.Arith as arithmetic
 use Rattle.block.specs.Arith.{Arith}
-use Rattle.bits.specs.Memory.{standing}
 use Rattle.engine.specs.Meaning.{Meaning}
-use Rattle.overlay.specs.Laws.{Stands}
 use Rattle.overlay.specs.declared.ledger.Account.{Account}
 use Rattle.overlay.proofs.Laws.{length_standing, judged_by}
 use Rattle.overlay.specs.Refusals.{refused}
 use Rattle.overlay.specs.Judging.{misfits, open_tests}
-use Rattle.history.specs.Reckoning.{Beginning, opens, receives, Call, Answer, says, Phase, returned, Reckoning, Reply, Tells, Run, ends, total, worth, Conserved, beginning}
-use Rattle.history.specs.Desk.{Kept, engine, arrival, open_one, Desk, Moved, totals, bits_in, left_in, Shows, StandsFor, Follows, Reckons, Advances, Runs, History, Turn, started, called, ran}
+use Rattle.history.specs.Reckoning.{Beginning, opens, receives, Call, Answer, says, returned, Reckoning, Reply, Tells, Run, ends, total, worth, Conserved, beginning}
+use Rattle.history.specs.Desk.{Kept, engine, arrival, open_one, Desk, Moved, totals, bits_in, left_in, Shows, StandsFor, Reckons, Advances, Runs, History, Turn, started, called, ran}
 use Rattle.history.specs.declared.call.Call as code
 use Rattle.history.specs.declared.answer.Reply as code-reply
 use Rattle.history.specs.Views.{call_of, calls_of, reply_of, replies_of}

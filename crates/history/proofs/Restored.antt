@@ -1,5 +1,5 @@
 -- One lost block comes back. Assumes nothing.
-use Rattle.std.proofs.Common.{◌≡◌, ℕ, zero, suc, ◌+◌, ◌-◌, ◌*◌, ◌<◌, ◌≤◌, Bool, true, false, cond, not, eqb, ltb, List, [], ◌∷◌, length, sym, refl, ap, ◌∙◌, subst, ap₂, arith, le-ltb, eq-eqb, ne_eqb}
+use Rattle.std.proofs.Common.{◌≡◌, ℕ, ◌*◌, ◌≤◌, Bool, true, false, cond, not, List, [], ◌∷◌, length, sym, ap, ◌∙◌, ap₂, arith, le-ltb, eq-eqb, ne_eqb}
 use Rattle.block.specs.Arith as arithmetic
 use Rattle.block.specs.Arith.{Arith, width, from_bytes, to_bytes}
 use Rattle.block.specs.BitsLemmas.{length_bytes_of}
@@ -13,11 +13,11 @@ use Rattle.pmac.specs.Recovery.{placed, recovered}
 use Rattle.pmac.proofs.Places.{places, placed_twice, placed_same}
 use Rattle.pmac.proofs.Recovery.{recoveries}
 use Rattle.overlay.specs.Judging.{judged, misfits, missing, recover_tests, whole_due}
-use Rattle.overlay.specs.Calls.{World, After, sent}
+use Rattle.overlay.specs.Calls.{World, sent}
 use Rattle.overlay.proofs.Laws.{Passes}
 use Rattle.history.specs.Desk.{Turn, arrival, after}
-use Rattle.history.specs.Restoring.{then_recover, restoring, Restored, Restores}
-use Rattle.overlay.specs.Receiving.{took, declined, Arrived, did, receive, recover, recover_done}
+use Rattle.history.specs.Restoring.{then_recover, restoring, Restores}
+use Rattle.overlay.specs.Receiving.{took, declined, Arrived, did, recover, recover_done}
 
 -- where no test holds and left suffices, a call is carried out
 carried_out : {R : Type 0} (refuse : Refusal → R) (left : ℕ) (ts : List (Bool × ℕ)) (due : ℕ) (done : R) → Passes ts → due ≤ left → judged refuse left ts due done ≡ done

@@ -1,14 +1,14 @@
 -- A desk that stands for a reckoning stands for the next one after each call. Assumes nothing.
-use Rattle.std.proofs.Common.{◌≡◌, ℕ, zero, suc, ◌+◌, ◌-◌, ◌*◌, ◌<◌, ◌≤◌, min, Bool, true, false, cond, not, ◌||◌, eqb, ltb, leb, ◌⊎◌, List, [], ◌∷◌, ◌++◌, length, get_or, take, drop, set, replicate, sym, refl, ap, ◌∙◌, subst, ap₂, inl, inr, arith, eq-eqb, ne_eqb}
+use Rattle.std.proofs.Common.{◌≡◌, ℕ, zero, suc, ◌+◌, ◌-◌, ◌*◌, ◌<◌, ◌≤◌, min, Bool, true, false, cond, not, ◌||◌, eqb, ltb, leb, ◌⊎◌, List, [], ◌∷◌, ◌++◌, length, get_or, take, set, replicate, sym, refl, ap, ◌∙◌, subst, ap₂, inl, inr, arith, ne_eqb}
 use lib.Seq.{paste, set-get_or}
 use Rattle.std.proofs.lemmas.List.{append-nil, length-take-le, length-set}
 use Rattle.std.proofs.lemmas.List.Edits.{length-paste}
-use Rattle.std.proofs.lemmas.Bool.{ltb-false, leb-true, cases_lt}
+use Rattle.std.proofs.lemmas.Bool.{ltb-false, cases_lt}
 use Rattle.block.specs.Bits.{bits_of}
 use Rattle.block.specs.Arith as arithmetic
 use Rattle.block.specs.Arith.{Arith, width, from_bytes, to_bytes}
 use Rattle.block.specs.BitsLemmas.{length_bytes_of}
-use Rattle.bits.specs.Memory.{standing, written, replaced}
+use Rattle.bits.specs.Memory.{standing, replaced}
 use Rattle.bits.proofs.Parts.{start_next}
 use Rattle.engine.specs.Refusals.{Refusal}
 use Rattle.engine.specs.Meaning.{Meaning, Undoes, spent}
@@ -17,16 +17,16 @@ use Rattle.pmac.specs.Prices.{add_due, cut_due, put_due}
 use Rattle.pmac.specs.Recovery.{placed, recovered}
 use Rattle.pmac.proofs.Places.{places}
 use Rattle.pmac.proofs.Recovery.{recoveries}
-use Rattle.overlay.specs.Refusals.{Outcome, carried, refused, numbered}
+use Rattle.overlay.specs.Refusals.{carried, refused, numbered}
 use Rattle.overlay.specs.Judging.{judged, misfits, open_tests, add_tests, cut_tests, put_tests, tag_tests, recover_tests, missing, whole_due}
-use Rattle.overlay.specs.Ledger.{Booked, book, at}
-use Rattle.overlay.specs.Calls.{State, World, After, Start, begun, back, sent, begin, add, add_done, cut, cut_done, put, put_done, tag, tag_done, taggable}
+use Rattle.overlay.specs.Ledger.{Booked, at}
+use Rattle.overlay.specs.Calls.{State, World, After, Start, back, sent, add, add_done, cut, cut_done, put, put_done, tag, tag_done, taggable}
 use Rattle.overlay.specs.Laws.{Stands, then}
 use Rattle.overlay.specs.declared.ledger.Account.{Account}
 use Rattle.overlay.proofs.Laws.{Passes, length_standing, cut_stands, add_stands, put_stands, tag_stands, tagged, sum_none}
-use Rattle.history.specs.Reckoning.{Beginning, opens, receives, Call, checks, recovers, adds, cuts, puts, tags, books, Answer, silent, says, Phase, returned, received, opened, Reckoning, Verdict, untaken, refusal, wrong, granted, when_open, when_received, booking, paid, next, tag_of, verdict, Becomes, given, Goes, Step, beginning}
-use Rattle.history.specs.Desk.{after_receipt, Kept, engine, arrival, open_one, Desk, Turn, Moved, Entered, totals, booked_at, blank, moved, after, after_tag, after_check, on_open, on_received, on_overlay, called, entered, started, after_start, Shows, StandsFor, Follows, Reckons}
-use Rattle.overlay.specs.Receiving.{Receipt, Arrived, Checked, turned, stays, did, same, receive, check, checked, recover, recover_done}
+use Rattle.history.specs.Reckoning.{Beginning, opens, receives, Call, checks, recovers, adds, cuts, puts, tags, books, Answer, silent, says, Phase, returned, received, opened, Reckoning, Verdict, untaken, refusal, wrong, granted, when_open, when_received, booking, paid, next, tag_of, Becomes, given, Goes, beginning}
+use Rattle.history.specs.Desk.{after_receipt, Kept, engine, arrival, open_one, Desk, Turn, Moved, Entered, totals, booked_at, blank, moved, after_check, called, entered, started, after_start, Shows, StandsFor, Follows, Reckons}
+use Rattle.overlay.specs.Receiving.{Receipt, Arrived, Checked, stays, did, same, check, checked, recover, recover_done}
 
 -- two answers by the same tests
 module _ {R S : Type 0} (P : R → S → Type 0) where

@@ -1,10 +1,9 @@
 -- What a list of slips shows. Assumes nothing.
-use Rattle.std.proofs.Common.{◌≡◌, ℕ, zero, suc, ◌+◌, ◌<◌, ◌≤◌, Bool, true, false, cond, ltb, List, [], ◌∷◌, ◌++◌, length, get_or, set, sym, refl, ap, ◌∙◌, ap₂, arith, le-ltb, lt-ltb}
-use Rattle.overlay.specs.Refusals.{Outcome}
+use Rattle.std.proofs.Common.{◌≡◌, ℕ, zero, suc, ◌<◌, ◌≤◌, true, false, cond, ltb, List, [], ◌∷◌, ◌++◌, length, get_or, set, sym, refl, ap, ◌∙◌, arith, le-ltb, lt-ltb}
 use Rattle.overlay.specs.Ledger.{Booked, book}
 use Rattle.overlay.specs.declared.ledger.Account.{Account}
 use Rattle.overlay.specs.declared.slip.Slip.{Slip}
-use Rattle.history.specs.Reckoning.{Answer, silent, says}
+use Rattle.history.specs.Reckoning.{silent, says}
 use Rattle.history.specs.Desk.{Entered, booked_at}
 use Rattle.history.specs.Views.{shown}
 

@@ -1,16 +1,15 @@
 -- An overlay in whatever state with its memory, accounts and slips, and one call on them. Assumes nothing.
-use Rattle.std.specs.Prelude.{◌≡◌, ℕ, ◌+◌, ◌*◌, ◌≤◌, min, Bool, cond, List, [], ◌∷◌, ◌++◌, length, take, replicate, nat_lt, slice_index, slice_set}
+use Rattle.std.specs.Prelude.{◌≡◌, ℕ, ◌+◌, ◌*◌, ◌≤◌, min, cond, List, [], ◌∷◌, ◌++◌, length, take, replicate, nat_lt, slice_index, slice_set}
 use Rattle.block.specs.Arith.{Arith}
 use Rattle.block.specs.Bits.{bits_of}
 use Rattle.bits.specs.Memory.{standing}
-use Rattle.engine.specs.Refusals.{Refusal}
 use Rattle.engine.specs.Meaning.{Meaning}
 use Rattle.overlay.specs.Refusals.{Outcome, carried, refused}
-use Rattle.overlay.specs.Ledger.{Booked, book}
-use Rattle.overlay.specs.Calls.{State, World, After, Start, begun, back, begin, add, cut, put, tag}
+use Rattle.overlay.specs.Ledger.{book}
+use Rattle.overlay.specs.Calls.{State, After, Start, begun, back, begin, add, cut, put, tag}
 use Rattle.overlay.specs.Laws.{Stands, then}
 use Rattle.overlay.specs.declared.ledger.Account.{Account}
-use Rattle.history.specs.Reckoning.{Beginning, opens, receives, Call, checks, recovers, adds, cuts, puts, tags, books, Answer, silent, says, Phase, returned, received, opened, Reckoning, Step, Reply, Tells, Run, ends, beginning, total, Conserved}
+use Rattle.history.specs.Reckoning.{Beginning, opens, receives, Call, checks, recovers, adds, cuts, puts, tags, books, Answer, silent, says, returned, received, opened, Reckoning, Step, Reply, Tells, Run, ends, beginning, total, Conserved}
 use Rattle.overlay.specs.Receiving.{Receipt, took, declined, Arrived, Checked, turned, stays, receive, check, recover}
 
 -- an overlay in one of its states

@@ -5,7 +5,6 @@ use Rattle.std.proofs.Math.Seq.{paste}
 use Rattle.block.specs.Bits.{bits_of}
 use Rattle.block.specs.Arith.{Arith, from_bytes, to_bytes}
 use Rattle.engine.specs.Refusals.{Refusal}
-use Rattle.engine.specs.Meaning.{Meaning, Undoes}
 use Rattle.pmac.specs.Pmac.{full}
 use Rattle.pmac.specs.Prices.{add_due, cut_due, put_due, edit_bound, put_bound}
 use Rattle.pmac.specs.Recovery.{placed}

@@ -1,27 +1,26 @@
 -- The calls' definitions keep what belongs to the bits that stand. Assumes nothing.
-use Rattle.std.proofs.Common.{◌≡◌, ℕ, zero, suc, ◌+◌, ◌-◌, ◌*◌, ◌<◌, ◌≤◌, Bool, true, false, cond, eqb, ltb, ◌⊎◌, List, [], ◌∷◌, ◌++◌, length, take, sym, refl, ap, ◌∙◌, subst, ap₂, inl, inr, arith, length-take-le, take-take, eq-eqb, ne_eqb}
+use Rattle.std.proofs.Common.{◌≡◌, ℕ, zero, suc, ◌+◌, ◌-◌, ◌*◌, ◌<◌, ◌≤◌, Bool, false, cond, ltb, ◌⊎◌, List, [], ◌∷◌, ◌++◌, length, take, sym, refl, ap, ◌∙◌, subst, ap₂, inl, inr, arith, length-take-le, take-take, eq-eqb, ne_eqb}
 use lib.Seq.{paste}
 use Rattle.std.proofs.lemmas.List.Edits.{length-paste, paste_none}
 use Rattle.std.proofs.lemmas.Bool.{cond_both, ltb-false, cases_lt}
-use Rattle.block.specs.Bits.{bits_of, bytes_of}
+use Rattle.block.specs.Bits.{bits_of}
 use Rattle.block.specs.Arith as arithmetic
 use Rattle.block.specs.Arith.{Arith, to_bytes}
 use Rattle.block.specs.BitsLemmas.{length_bits_of, length_bytes_of, bits_of_bytes_of}
 use Rattle.block.proofs.Group.{zero_r}
-use Rattle.bits.specs.Blocks.{blocks, ceil, last}
+use Rattle.bits.specs.Blocks.{blocks, ceil}
 use Rattle.bits.specs.Memory.{standing, written}
 use Rattle.bits.proofs.Counts.{blocks_inner}
 use Rattle.engine.specs.Refusals.{Refusal}
 use Rattle.engine.specs.Meaning.{Meaning, spent}
-use Rattle.pmac.specs.Pmac.{over, sealed, sum, full, ending}
+use Rattle.pmac.specs.Pmac.{over, sealed, sum, full}
 use Rattle.pmac.specs.Stored.{stored}
 use Rattle.pmac.specs.Edits.{touched, touched_from, touched_to}
 use Rattle.pmac.specs.Prices.{add_due, cut_due, put_due, put_bound}
-use Rattle.pmac.proofs.Sums.{sums, drops}
+use Rattle.pmac.proofs.Sums.{drops}
 use Rattle.pmac.proofs.Over.{over_none}
-use Rattle.pmac.proofs.Edits.{adds_written, puts_written, take_of_paste}
+use Rattle.pmac.proofs.Edits.{adds_written, puts_written}
 use Rattle.pmac.proofs.Prices.{prices}
-use Rattle.overlay.specs.Refusals.{Outcome, carried, refused}
 use Rattle.overlay.specs.Judging.{judged, open_tests, cut_tests, add_tests, put_tests, tag_tests}
 use Rattle.overlay.specs.Receiving.{did}
 use Rattle.overlay.specs.Calls.{State, World, After, Start, begun, back, begin, sent, cut, cut_done, add, add_done, put, put_done, tag, tag_done}

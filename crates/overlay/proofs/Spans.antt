@@ -1,5 +1,5 @@
 -- The blocks that a put touches. Assumes nothing.
-use Rattle.std.proofs.Common.{◌≡◌, ℕ, ◌+◌, ◌-◌, ◌*◌, ◌/◌, ◌%◌, ◌<◌, ◌≤◌, min, true, false, cond, eqb, length, replicate, sym, refl, ap, ◌∙◌, subst, ap₂, mul-le-mul_right, arith, eq-eqb, ne_eqb}
+use Rattle.std.proofs.Common.{◌≡◌, ℕ, ◌+◌, ◌-◌, ◌*◌, ◌/◌, ◌%◌, ◌<◌, ◌≤◌, min, false, cond, length, replicate, sym, ap, ◌∙◌, subst, ap₂, mul-le-mul_right, arith, eq-eqb, ne_eqb}
 use lib.ListN.{length-replicate}
 use Rattle.std.proofs.lemmas.Nat.{div_below}
 use Rattle.block.specs.Arith.{Arith, Laws, width}

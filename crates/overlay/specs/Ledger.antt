@@ -1,7 +1,7 @@
 -- Sixteen accounts, and a slip's number booked into one of them. Assumes nothing.
 use Rattle.std.specs.Prelude.{ℕ, ◌+◌, ◌-◌, Bool, cond, List, replicate, Some, None, Ok, Err, Option, Result, nat_lt, slice_index_or, slice_set}
 use Rattle.overlay.specs.declared.fault.BookingFault.{BookingFault}
-use Rattle.overlay.specs.declared.fault.BookingFault.TheVariants.{NoAccount, Full}
+use Rattle.overlay.specs.declared.fault.BookingFault.TheVariants.{Full}
 use Rattle.overlay.specs.declared.ledger.Account.{Account}
 use Rattle.overlay.specs.Refusals.{Outcome, carried, refused, numbered}
 

@@ -1,5 +1,5 @@
 -- Refusals of an overlay's calls and of bookings, with their numbers and told values. Assumes nothing.
-use Rattle.std.specs.Prelude.{ℕ, List, [], ◌∷◌, Ok, Err, Result}
+use Rattle.std.specs.Prelude.{ℕ, [], Ok, Err, Result}
 use Rattle.engine.specs.Refusals.{Refusal, engine_refusal}
 use Rattle.overlay.specs.declared.fault.OverlayFault.{OverlayFault}
 use Rattle.overlay.specs.declared.fault.OverlayFault.TheVariants.{Memory, Edit, Range, Room, TagLength, BlockNumber, WrongTag, Engine}

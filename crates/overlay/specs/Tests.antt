@@ -1,5 +1,5 @@
 -- What the small functions of a call answer. Assumes nothing.
-use Rattle.std.specs.Prelude.{ℕ, ◌+◌, ◌*◌, cond, not, List, length, Ok, Err, Result, ◌==◌, nat_lt}
+use Rattle.std.specs.Prelude.{ℕ, ◌*◌, cond, not, List, length, Ok, Err, Result, ◌==◌, nat_lt}
 use Rattle.block.specs.Arith.{Arith}
 use Rattle.bits.specs.Memory.{unfit}
 use Rattle.overlay.specs.Calls.{taggable}

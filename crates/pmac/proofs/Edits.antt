@@ -1,18 +1,16 @@
 -- Writes into the memory. Assumes nothing.
-use Rattle.std.proofs.Common.{◌≡◌, ℕ, zero, suc, ◌+◌, ◌-◌, ◌*◌, ◌/◌, ◌<◌, ◌≤◌, min, Bool, List, [], ◌∷◌, ◌++◌, length, take, drop, sym, refl, ap, ◌∙◌, ap₂, mul-le-mul_right, arith}
+use Rattle.std.proofs.Common.{◌≡◌, ℕ, ◌+◌, ◌-◌, ◌*◌, ◌/◌, ◌<◌, ◌≤◌, min, List, ◌++◌, length, take, drop, sym, ap, ◌∙◌, ap₂, mul-le-mul_right, arith}
 use lib.Seq.{paste, take-append-add}
-use Rattle.std.proofs.lemmas.List.{take-take, take_at, take-append-le, length-append, length-take-le, append_assoc, drop-append-le, drop-take}
-use Rattle.std.proofs.lemmas.List.Edits.{take-paste, drop-paste, length-paste}
+use Rattle.std.proofs.lemmas.List.{take-take, take_at, length-append, length-take-le, append_assoc, drop-take}
+use Rattle.std.proofs.lemmas.List.Edits.{take-paste, drop-paste}
 use Rattle.block.specs.Bits.{bits_of}
 use Rattle.block.specs.Arith.{Arith, Laws, width}
 use Rattle.bits.specs.Blocks.{blocks}
-use Rattle.bits.specs.Memory.{standing, held}
-use Rattle.pmac.specs.Pmac.{over, sum}
-use Rattle.pmac.specs.Stored.{stored}
+use Rattle.bits.specs.Memory.{standing}
 use Rattle.pmac.specs.Edits.{touched_from, touched_to, AddsWritten, PutsWritten}
 use Rattle.block.specs.BitsLemmas.{length_bits_of}
 use Rattle.bits.proofs.Counts.{blocks_some, ceil_all, block_of, block_below, block_ceil}
-use Rattle.bits.proofs.Parts.{part_front, part_back, start_next}
+use Rattle.bits.proofs.Parts.{part_front, part_back}
 use Rattle.bits.proofs.Memory.{part_held, held_inside}
 use Rattle.pmac.proofs.Sums.{adds, puts}
 

@@ -1,7 +1,7 @@
 -- What the last block adds to the sum. Assumes nothing.
-use Rattle.std.proofs.Common.{◌≡◌, ℕ, Bool, true, false, cond, List, length, sym, ap, ◌∙◌, ap₂, eq-eqb}
+use Rattle.std.proofs.Common.{◌≡◌, Bool, true, false, cond, List, length, sym, ap, ◌∙◌, ap₂, eq-eqb}
 use Rattle.block.specs.Arith.{Arith, Laws, width}
-use Rattle.bits.specs.Blocks.{last, padded, whole}
+use Rattle.bits.specs.Blocks.{last}
 use Rattle.bits.specs.Memory.{closing}
 use Rattle.bits.specs.declared.Last.{Last}
 use Rattle.bits.proofs.Padding.{padded_whole}

@@ -1,12 +1,12 @@
 -- Offsets step by step: one Gray number differs from the one before in the bit of the trailing zeros. Assumes nothing.
-use Rattle.std.proofs.Common.{◌≡◌, ℕ, zero, suc, ◌+◌, ◌-◌, ◌*◌, ◌/◌, ◌%◌, ◌^◌, ◌<◌, ◌≤◌, Bool, true, false, cond, sym, refl, ap, ◌∙◌, subst, ap₂, add-zero, add_assoc, pow-suc, zero-add, add-one, one-add, arith}
+use Rattle.std.proofs.Common.{◌≡◌, ℕ, zero, suc, ◌+◌, ◌-◌, ◌*◌, ◌/◌, ◌%◌, ◌^◌, ◌<◌, ◌≤◌, cond, sym, refl, ap, ◌∙◌, ap₂, add_assoc, pow-suc, add-one, one-add, arith}
 use lib.Bits.{bit_xor, xor_shr, xor_mod, xor_lt}
 use lib.Count.{count_trailing_zeros, under}
-use Rattle.std.proofs.lemmas.Nat.{pow_pos, shr-shr, div_below}
+use Rattle.std.proofs.lemmas.Nat.{shr-shr}
 use Rattle.block.specs.Bits.{bit}
 use Rattle.block.specs.Arith.{Arith, Laws}
 use Rattle.pmac.specs.Pmac.{gray, over, doubled, spread, offset}
-use Rattle.block.proofs.Group.{assoc, comm, left_comm, cancel, self, zero_r, zero_l}
+use Rattle.block.proofs.Group.{assoc, comm, self, zero_r, zero_l}
 use Rattle.pmac.proofs.Over.{over_same, over_split, over_one}
 
 -- ---- Gray numbers

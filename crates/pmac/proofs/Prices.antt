@@ -1,5 +1,5 @@
 -- The bounds of the price list. Assumes nothing.
-use Rattle.std.proofs.Common.{◌≡◌, ℕ, suc, ◌+◌, ◌-◌, ◌*◌, ◌/◌, ◌%◌, ◌<◌, ◌≤◌, min, max, sym, ap, ◌∙◌, mul-le-mul_right, mod-lt, div-add-mod', div-mul-le_self, arith}
+use Rattle.std.proofs.Common.{ℕ, suc, ◌+◌, ◌-◌, ◌*◌, ◌/◌, ◌<◌, ◌≤◌, max, mul-le-mul_right, mod-lt, div-add-mod', div-mul-le_self, arith}
 use Rattle.std.proofs.lemmas.Nat.{div_below, le-div}
 use Rattle.block.specs.Arith.{Arith, Laws, width}
 use Rattle.bits.specs.Blocks.{blocks, ceil}

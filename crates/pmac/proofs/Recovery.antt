@@ -1,5 +1,5 @@
 -- One lost block. Assumes nothing.
-use Rattle.std.proofs.Common.{◌≡◌, ℕ, ◌+◌, ◌-◌, ◌*◌, ◌<◌, ◌≤◌, Bool, true, false, cond, ltb, ◌⊎◌, List, length, sym, refl, ap, ◌∙◌, ap₂, inl, inr, arith, le-ltb, lt-ltb}
+use Rattle.std.proofs.Common.{◌≡◌, ℕ, ◌+◌, ◌-◌, ◌*◌, ◌<◌, ◌≤◌, Bool, ◌⊎◌, List, length, sym, refl, ap, ◌∙◌, ap₂, inl, inr, arith, le-ltb, lt-ltb}
 use Rattle.std.proofs.lemmas.List.{length-take-le}
 use Rattle.std.proofs.lemmas.Bool.{cases_lt}
 use Rattle.block.specs.Bits.{bits_of}
@@ -12,7 +12,7 @@ use Rattle.bits.proofs.Counts.{blocks_some}
 use Rattle.engine.specs.Meaning.{Meaning, Undoes}
 use Rattle.pmac.specs.Pmac.{over, offset, ending, sealed, sum, full}
 use Rattle.pmac.specs.Stored.{stored}
-use Rattle.pmac.specs.Recovery.{placed, others, lost_inner, lost_last, recovered, Recoveries, OneBlock}
+use Rattle.pmac.specs.Recovery.{placed, lost_inner, lost_last, recovered, Recoveries, OneBlock}
 use Rattle.pmac.proofs.Over.{over_same, over_to, over_one}
 use Rattle.pmac.proofs.Sums.{sealed_stored, sums}
 use Rattle.pmac.proofs.Endings.{ending_whole}

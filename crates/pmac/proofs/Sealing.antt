@@ -1,5 +1,5 @@
 -- Blocks sealed one after the other, and the tag from its parts. Assumes nothing.
-use Rattle.std.proofs.Common.{◌≡◌, ℕ, suc, ◌+◌, ◌-◌, ◌*◌, ◌^◌, ◌<◌, ◌≤◌, List, length, sym, refl, ap, ◌∙◌, ap₂, mul-le-mul_right, arith}
+use Rattle.std.proofs.Common.{◌≡◌, ℕ, suc, ◌+◌, ◌-◌, ◌*◌, ◌^◌, ◌<◌, ◌≤◌, List, length, sym, ap, ◌∙◌, ap₂, mul-le-mul_right, arith}
 use lib.Count.{count_trailing_zeros}
 use Rattle.block.specs.Arith.{Arith, Laws}
 use Rattle.bits.specs.Blocks.{blocks, last}

@@ -1,5 +1,5 @@
 -- Worked cases of the rules together, at 64 bits, with tags under the complement engine. Assumes nothing.
-use Rattle.std.specs.Prelude.{◌≡◌, false, List, [], ◌∷◌, replicate}
+use Rattle.std.specs.Prelude.{◌≡◌, false, [], ◌∷◌, replicate}
 use Rattle.block.specs.Blocks.{arith64}
 use Rattle.bits.specs.Blocks.{blocks}
 use Rattle.engine.specs.Complement.{flipped}

@@ -2,7 +2,7 @@
 use Rattle.std.specs.Prelude.{◌≡◌, ℕ, ◌+◌, ◌-◌, ◌*◌, ◌/◌, ◌<◌, ◌≤◌, min, Bool, cond, List, ◌++◌, length, take, ◌==◌}
 use Rattle.std.proofs.Math.Seq.{paste}
 use Rattle.block.specs.Bits.{bits_of}
-use Rattle.block.specs.Arith.{Arith, Laws, width}
+use Rattle.block.specs.Arith.{Arith, width}
 use Rattle.bits.specs.Blocks.{blocks}
 use Rattle.bits.specs.Memory.{standing}
 use Rattle.pmac.specs.Pmac.{over, sum}

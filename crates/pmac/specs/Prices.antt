@@ -1,5 +1,5 @@
 -- How many operations an edit asks, and the bounds of the price list. Assumes nothing.
-use Rattle.std.specs.Prelude.{ℕ, ◌+◌, ◌-◌, ◌*◌, ◌/◌, ◌<◌, ◌≤◌, cond, ◌==◌}
+use Rattle.std.specs.Prelude.{ℕ, ◌+◌, ◌-◌, ◌*◌, ◌<◌, ◌≤◌, cond, ◌==◌}
 use Rattle.block.specs.Arith.{Arith, width}
 use Rattle.bits.specs.Blocks.{blocks, ceil}
 use Rattle.pmac.specs.Edits.{touched_from, touched_to, touched}

@@ -1,4 +1,4 @@
-use Rattle.std.proofs.Common.{◌≡◌, ◌+◌, ◌-◌, ◌*◌, ◌/◌, ◌≤◌, max, sym, refl, ap, ◌∙◌, ap₂, arith}
+use Rattle.std.proofs.Common.{◌≡◌, ◌-◌, ◌*◌, ap₂, arith}
 use Rattle.bits.specs.Blocks.{blocks}
 use Rattle.bits.proofs.Counts.{blocks_some, blocks_before, blocks_left}
 use Rattle.bits.proofs.last_start.Goals as goal

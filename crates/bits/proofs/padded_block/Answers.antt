@@ -1,4 +1,4 @@
-use Rattle.std.proofs.Common.{◌≡◌, take, sym, refl, ap, ◌∙◌, arith}
+use Rattle.std.proofs.Common.{take, ap, ◌∙◌, arith}
 use Rattle.block.specs.Bits.{bits_of}
 use Rattle.bits.proofs.Padding.{padded_read}
 use Rattle.bits.proofs.padded_block.Goals as goal

@@ -1,6 +1,6 @@
-use Rattle.std.proofs.Common.{◌≡◌, ◌+◌, ◌-◌, ◌<◌, sym, ap, ◌∙◌, subst, arith}
+use Rattle.std.proofs.Common.{◌-◌, ap, ◌∙◌, arith}
 use Rattle.block.specs.Bits.{bits}
-use Rattle.bits.proofs.Writing.{word_is, word_lt, word_bits, byte_pasted, paste_onward}
+use Rattle.bits.proofs.Writing.{word_is, word_lt, word_bits}
 use Rattle.bits.proofs.write.spliced.Goals as goal
 
 pub returns : goal.returns

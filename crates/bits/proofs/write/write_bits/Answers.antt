@@ -1,4 +1,4 @@
-use Rattle.std.proofs.Common.{◌≡◌, ◌+◌, ◌*◌, ◌/◌, ◌≤◌, length, sym, ap, ◌∙◌, ap₂, arith}
+use Rattle.std.proofs.Common.{◌≡◌, ◌*◌, ◌/◌, sym, ap, ◌∙◌, ap₂, arith}
 use lib.Seq.{paste}
 use Rattle.block.specs.Bits.{bits_of, bytes_of}
 use Rattle.block.specs.BitsLemmas.{bytes_of_bits_of}

@@ -1,5 +1,4 @@
-use Rattle.std.proofs.Common.{◌≡◌, [], set, refl, ◌∙◌, ap₂, arith, rules}
-use Rattle.overlay.specs.Ledger.{Booked}
+use Rattle.std.proofs.Common.{[], set, refl, ◌∙◌, ap₂, arith, rules}
 use Rattle.overlay.specs.Views.{booked}
 use Rattle.history.specs.Desk.{Entered}
 use Rattle.history.specs.Reckoning.{says}

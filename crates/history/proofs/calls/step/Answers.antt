@@ -1,4 +1,4 @@
-use Rattle.std.proofs.Common.{◌≡◌, vec_items, sym, subst}
+use Rattle.std.proofs.Common.{vec_items, sym, subst}
 use Rattle.engine.specs.Meaning.{Meaning, Undoes}
 use Rattle.history.specs.declared.answer.Stage.{Stage}
 use Rattle.history.specs.declared.answer.Stage.TheVariants.{Returned, Received, Opened}

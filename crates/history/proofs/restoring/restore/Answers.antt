@@ -1,5 +1,4 @@
 use Rattle.pmac.proofs.Recovery.{one_block}
-use Rattle.history.specs.Views.{turn_of}
 use Rattle.history.proofs.Restored.{restores}
 use Rattle.history.proofs.restoring.restore.Goals as goal
 

@@ -1,4 +1,4 @@
-use Rattle.std.proofs.Common.{◌≡◌, [], ◌∷◌, ◌++◌, vec_items, sym, refl, ap, ◌∙◌, ap₂}
+use Rattle.std.proofs.Common.{◌≡◌, [], ◌∷◌, ◌++◌, vec_items, refl, ap, ◌∙◌, ap₂}
 use Rattle.std.proofs.lemmas.List.{append_assoc}
 use Rattle.history.specs.Desk.{Desk, Turn, ran}
 use Rattle.history.specs.Views.{beginning_of, calls_of, desk_of, kept, reply_of, replies_of, shown, slip_of, telling_of, turn_of}

@@ -1,10 +1,9 @@
-use Rattle.std.proofs.Common.{◌≡◌, min, [], ◌++◌, length, take, drop, replicate, sym, ap, ◌∙◌, arith, rules}
+use Rattle.std.proofs.Common.{◌≡◌, min, [], ◌++◌, length, take, drop, replicate, sym, ap, ◌∙◌, arith}
 use Rattle.std.proofs.lemmas.List.{take_at, length-take-le}
 use Rattle.overlay.specs.Calls.{tag}
 use Rattle.overlay.specs.Laws.{then}
 use Rattle.overlay.specs.Refusals.{outcome}
 use Rattle.overlay.specs.Views.{world, seen}
-use Rattle.history.specs.Desk.{blank}
 use Rattle.history.proofs.tag.tag_bytes.Goals as goal
 
 pub returns-in-Ok : goal.returns-in-Ok

@@ -1,4 +1,4 @@
-use Rattle.std.proofs.Common.{◌≡◌, ◌≤◌, length, ap, ◌∙◌, arith, length-append, length-drop, length-take, rules}
+use Rattle.std.proofs.Common.{◌≡◌, ◌≤◌, length, ◌∙◌, arith, length-append, length-drop, length-take}
 use lib.Seq.{take-append-le}
 use Rattle.overlay.proofs.judge.write_front.Goals as goal
 

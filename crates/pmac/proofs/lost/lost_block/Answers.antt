@@ -1,4 +1,4 @@
-use Rattle.std.proofs.Common.{◌≡◌, ◌+◌, ◌-◌, ◌≤◌, Ok, ap, ◌∙◌, arith}
+use Rattle.std.proofs.Common.{◌+◌, ◌-◌, ◌≤◌, Ok, ap, ◌∙◌, arith}
 use Rattle.bits.specs.Blocks.{blocks}
 use Rattle.bits.specs.Memory.{standing}
 use Rattle.bits.proofs.Counts.{blocks_some}

@@ -1,4 +1,4 @@
-use Rattle.std.proofs.Common.{◌≡◌, ◌/◌, ◌%◌, ◌^◌, ◌<◌, sym, refl, ap, ◌∙◌, arith}
+use Rattle.std.proofs.Common.{◌≡◌, sym, ap, ◌∙◌, arith}
 use Rattle.pmac.specs.Pmac.{gray, spread}
 use Rattle.block.proofs.Group.{zero_l, zero_r}
 use Rattle.pmac.proofs.Gray.{gray_lt, spread_none, offset_spread, bit_in, bit_out}

@@ -1,5 +1,4 @@
 use Rattle.std.proofs.Common.{◌≡◌, ◌+◌, ◌-◌, ◌^◌, ◌<◌, ◌≤◌, sym, refl, ap, ◌∙◌, arith}
-use Rattle.engine.specs.Meaning.{Meaning}
 use Rattle.bits.specs.Memory.{held}
 use Rattle.pmac.specs.Pmac.{over}
 use Rattle.pmac.specs.Stored.{stored}

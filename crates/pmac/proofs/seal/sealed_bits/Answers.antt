@@ -1,7 +1,6 @@
-use Rattle.std.proofs.Common.{◌≡◌, ℕ, ◌+◌, ◌-◌, ◌*◌, ◌<◌, ◌≤◌, Ok, sym, refl, ap, ◌∙◌, ap₂, arith}
+use Rattle.std.proofs.Common.{◌≡◌, ◌+◌, ◌-◌, ◌*◌, ◌<◌, Ok, refl, ap, ◌∙◌, ap₂, arith}
 use Rattle.bits.specs.Blocks.{blocks}
 use Rattle.bits.proofs.Counts.{blocks_some, blocks_before}
-use Rattle.engine.specs.Meaning.{Meaning}
 use Rattle.pmac.specs.Pmac.{over}
 use Rattle.pmac.specs.Stored.{stored}
 use Rattle.pmac.proofs.Spending.{spent_on, spent_none, ok_same, asked_ok, asked_never}
