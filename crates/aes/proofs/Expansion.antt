@@ -3,7 +3,7 @@ use Rattle.std.proofs.Common.{◌≡◌, ℕ, zero, suc, ◌+◌, ◌-◌, ◌*�
 use lib.Bits.{bit_xor, bit_or, or_shifted}
 use Rattle.std.proofs.lemmas.Nat.{shr-shr, field_of}
 use Rattle.std.proofs.lemmas.List.{get_or-take, take_more_set, map-append}
-use Rattle.aes.specs.SBox.{s_box, inv_sBox}
+use Rattle.aes.specs.SBox.{s_box, inv_s_box}
 use Rattle.aes.specs.State.{Column, column, columns, State, each, listed, word_at}
 use Rattle.aes.specs.Cipher.{plus, inv_mix_column, Keys}
 use Rattle.aes.specs.Schedule.{sub_word, rot_word, power, rcon, none, taken, expansion, round_key, keys_of, key_words, key_schedule}
@@ -65,10 +65,10 @@ pub listed_end : {A : Type 0} (f : ℕ → A) (n i : ℕ) → listed f (suc n) i
 listed_end f zero i = ap (λ k. f k ∷ []) (sym (add-zero i))
 listed_end f (suc n) i = ap (λ l. f i ∷ l) (listed_end f n (suc i) ∙ ap (λ k. listed f n (suc i) ++ (f k ∷ [])) (omega arith))
 
-get_d_unpacked : (l : List ℕ) (j : ℕ) → get_or (map unpacked l) j none ≡ unpacked (get_or l j 0)
-get_d_unpacked [] j = refl
-get_d_unpacked (x ∷ l) zero = refl
-get_d_unpacked (x ∷ l) (suc j) = get_d_unpacked l j
+get_or_unpacked : (l : List ℕ) (j : ℕ) → get_or (map unpacked l) j none ≡ unpacked (get_or l j 0)
+get_or_unpacked [] j = refl
+get_or_unpacked (x ∷ l) zero = refl
+get_or_unpacked (x ∷ l) (suc j) = get_or_unpacked l j
 
 -- one word more at the end of those that are right
 pub set_end : (w : List ℕ) (i r : ℕ) → i < length w → map unpacked (take (i + 1) (set w i r)) ≡ map unpacked (take i w) ++ (unpacked r ∷ [])
@@ -77,7 +77,7 @@ set_end w i r h = ap (map unpacked) (take_more_set w i r h) ∙ map-append unpac
 pub round_key_lem : (w : List ℕ) (r : ℕ) → state_of (four (get_or w (4 * r) 0) (get_or w (4 * r + 1) 0) (get_or w (4 * r + 2) 0) (get_or w (4 * r + 3) 0)) ≡ round_key (map unpacked w) r
 unfolding state_of
 round_key_lem w r =
-    let at : (j : ℕ) → unpacked (get_or w j 0) ≡ get_or (map unpacked w) j none = λ j. sym (get_d_unpacked w j) in
+    let at : (j : ℕ) → unpacked (get_or w j 0) ≡ get_or (map unpacked w) j none = λ j. sym (get_or_unpacked w j) in
     λ i. columns (at (4 * r) i) (at (4 * r + 1) i) (at (4 * r + 2) i) (at (4 * r + 3) i)
 
 -- ---- the loops
@@ -94,7 +94,7 @@ start nk key = let e : nk - nk ≡ 0 = omega arith in sym (ap (λ n. expansion n
 
 -- what is read of the words so far is read of the whole
 seen : (w : List ℕ) (i j : ℕ) → j < i → unpacked (get_or w j 0) ≡ get_or (map unpacked (take i w)) j none
-seen w i j h = ap unpacked (sym (get_or-take i w j 0 h)) ∙ sym (get_d_unpacked (take i w) j)
+seen w i j h = ap unpacked (sym (get_or-take i w j 0 h)) ∙ sym (get_or_unpacked (take i w) j)
 
 pub expanded : (nk i : ℕ) (w : List ℕ) (key : List Column) (t : ℕ) → 0 < nk → nk ≤ i → i < length w → map unpacked (take i w) ≡ expansion nk (i - nk) key
     → unpacked t ≡ taken nk i (unpacked (get_or w (i - 1) 0))
@@ -123,10 +123,10 @@ pushed f ks i k h inv e =
 pub unmix_word : (w s r : ℕ) → r < 2 ^ 32 → s ≡ plain_word s_box w w w w 0 → r ≡ mixed_word unmixing0 unmixing1 s s s s 0 → r ≡ unmixed_word w
 unfolding unmixing0 unmixing1 unmixed_word
 unmix_word w s r h es er =
-    let back : each inv_sBox (unpacked s) ≡ unpacked w = ap (each inv_sBox) (sub_word_lem w s es) ∙ each_undone inv_sBox s_box boxes_undo.inv_sub (unpacked w) (unpacked_bytes w) in
+    let back : each inv_s_box (unpacked s) ≡ unpacked w = ap (each inv_s_box) (sub_word_lem w s es) ∙ each_undone inv_s_box s_box boxes_undo.inv_sub (unpacked w) (unpacked_bytes w) in
     let column-is : unpacked r ≡ inv_mix_column (unpacked w) =
-    ap unpacked er ∙ mixed_column 14 11 13 9 inv_sBox unmixing0 unmixing1 inv_sub_lt (λ x. refl) (λ x. refl) s s s s 0
-    ∙ plus_none (inv_mix_column (each inv_sBox (unpacked s))) ∙ ap inv_mix_column back in
+    ap unpacked er ∙ mixed_column 14 11 13 9 inv_s_box unmixing0 unmixing1 inv_sub_lt (λ x. refl) (λ x. refl) s s s s 0
+    ∙ plus_none (inv_mix_column (each inv_s_box (unpacked s))) ∙ ap inv_mix_column back in
     sym (packed_unpacked r h) ∙ ap packed column-is
 
 -- all of them

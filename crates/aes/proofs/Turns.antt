@@ -1,7 +1,7 @@
 -- The code's rounds are the standard's. Assumes nothing.
 use Rattle.std.proofs.Common.{◌≡◌, ℕ, ◌+◌, ◌<◌, List, [], ◌∷◌, ◌++◌, map, length, get_or, take, drop, sym, refl, ap, ◌∙◌, ap₂, add-one, drop-cons}
 use Rattle.std.proofs.lemmas.List.{take_more}
-use Rattle.aes.specs.SBox.{s_box, inv_sBox}
+use Rattle.aes.specs.SBox.{s_box, inv_s_box}
 use Rattle.aes.specs.State.{Column, State, column, columns, each, every}
 use Rattle.aes.specs.Cipher.{mix_column, mix_columns, plus, shift_rows, inv_mix_column, inv_mix_columns, add_round_key, inv_sub_bytes, inv_shift_rows, whole_round, last_round, rounds, inv_whole_round, inv_last_round, inv_rounds}
 use Rattle.aes.specs.Words.{unpacked, state_of, mixing0, mixing1, unmixing0, unmixing1, mixed_word, plain_word, shifted, inv_shifted, unmixed_word, Unmixes}
@@ -57,11 +57,11 @@ last_round_lem = shifted_state (plain_word s_box) s_box (λ c. c) (plain_column 
 
 eq_inv_round_lem : (k x : Words) → state_of (inv_shifted (mixed_word unmixing0 unmixing1) k x) ≡ eq_inv_round (state_of k) (state_of x)
 unfolding eq_inv_round inv_mix_columns unmixing0 unmixing1
-eq_inv_round_lem = inv_shifted_state (mixed_word unmixing0 unmixing1) inv_sBox inv_mix_column (mixed_column 14 11 13 9 inv_sBox unmixing0 unmixing1 inv_sub_lt (λ x. refl) (λ x. refl))
+eq_inv_round_lem = inv_shifted_state (mixed_word unmixing0 unmixing1) inv_s_box inv_mix_column (mixed_column 14 11 13 9 inv_s_box unmixing0 unmixing1 inv_sub_lt (λ x. refl) (λ x. refl))
 
-pub inv_last_round_lem : (k x : Words) → state_of (inv_shifted (plain_word inv_sBox) k x) ≡ inv_last_round (state_of k) (state_of x)
+pub inv_last_round_lem : (k x : Words) → state_of (inv_shifted (plain_word inv_s_box) k x) ≡ inv_last_round (state_of k) (state_of x)
 unfolding inv_last_round
-inv_last_round_lem = inv_shifted_state (plain_word inv_sBox) inv_sBox (λ c. c) (plain_column inv_sBox inv_sub_lt)
+inv_last_round_lem = inv_shifted_state (plain_word inv_s_box) inv_s_box (λ c. c) (plain_column inv_s_box inv_sub_lt)
 
 inv_whole_round_lem : (k : RoundKey) (x : Words) → state_of (inv_shifted (mixed_word unmixing0 unmixing1) k.unmixed x) ≡ inv_whole_round (key_of k) (state_of x)
 inv_whole_round_lem k x =

@@ -1,7 +1,7 @@
 -- FIPS 197, sections 5.1 and 5.3: the cipher and the inverse cipher, over any list of round keys. Assumes nothing.
 use Rattle.std.specs.Prelude.{◌≡◌, ℕ, List, [], ◌∷◌, bit_xor}
 use Rattle.aes.specs.Field.{times}
-use Rattle.aes.specs.SBox.{s_box, inv_sBox}
+use Rattle.aes.specs.SBox.{s_box, inv_s_box}
 use Rattle.aes.specs.State.{Column, State, column, columns, each, every, Fit, AllFit}
 
 -- SubBytes, 5.1.1
@@ -45,7 +45,7 @@ inv_shift_rows x =
 
 -- InvSubBytes, 5.3.2
 abbrev pub inv_sub_bytes : State → State
-inv_sub_bytes x = every (each inv_sBox) x
+inv_sub_bytes x = every (each inv_s_box) x
 
 -- InvMixColumns, 5.3.3
 abbrev pub inv_mix_column : Column → Column
@@ -107,5 +107,5 @@ FitKeys w = Fit w.first × AllFit w.middle × Fit w.last
 
 -- over any round keys, however many, each cipher undoes the other
 pub record RoundsUndo : Type 0 where
-  pub inv_cipher_lem : (w : Keys) (x : State) → FitKeys w → Fit x → inv_cipher w (cipher w x) ≡ x
-  pub cipher_inv : (w : Keys) (x : State) → FitKeys w → Fit x → cipher w (inv_cipher w x) ≡ x
+  pub inv_of_cipher : (w : Keys) (x : State) → FitKeys w → Fit x → inv_cipher w (cipher w x) ≡ x
+  pub cipher_of_inv : (w : Keys) (x : State) → FitKeys w → Fit x → cipher w (inv_cipher w x) ≡ x

@@ -6,7 +6,7 @@ use Rattle.engine.specs.declared.fault.KeyFault.{KeyFault}
 use Rattle.engine.specs.Refusals.{Refusal, key_refusal}
 use Rattle.aes.specs.Maps.{keyed}
 use Rattle.aes.specs.Keyed.{keys_in}
-use Rattle.aes.specs.declared.engine.Aes128.{Aes128}
+use Rattle.aes.specs.declared.aes128.Aes128.{Aes128}
 
 abbrev pub meaning : Aes128 → Meaning Block128
 meaning e = keyed (keys_in e.keys) e.allowance.left

@@ -2,7 +2,7 @@
 use Rattle.std.specs.Prelude.{ℕ, ◌<◌, List, [], ◌∷◌}
 use Rattle.std.proofs.lemmas.Nat.{xor_lt}
 use Rattle.aes.specs.Field.{times}
-use Rattle.aes.specs.SBox.{s_box, inv_sBox}
+use Rattle.aes.specs.SBox.{s_box, inv_s_box}
 use Rattle.aes.specs.State.{Column, State, each, every, Bytes, Fit, AllFit}
 use Rattle.aes.specs.Cipher.{row, matrix, plus, sub_bytes, shift_rows, mix_columns, add_round_key, inv_sub_bytes, inv_shift_rows, inv_mix_columns, whole_round, last_round, rounds, Keys, cipher, inv_whole_round, inv_last_round, inv_rounds, inv_cipher, FitKeys}
 use Rattle.aes.specs.FieldLemmas.{product_lt}
@@ -42,7 +42,7 @@ stirred_fit : (x : State) → Fit x → Fit (shift_rows (sub_bytes x))
 stirred_fit x h = shift_fit (sub_bytes x) (each_fit s_box sub_lt x h)
 
 pub unstirred_fit : (x : State) → Fit x → Fit (inv_sub_bytes (inv_shift_rows x))
-unstirred_fit x h = each_fit inv_sBox inv_sub_lt (inv_shift_rows x) (inv_shift_fit x h)
+unstirred_fit x h = each_fit inv_s_box inv_sub_lt (inv_shift_rows x) (inv_shift_fit x h)
 
 mix_fit : (x : State) → Fit x → Fit (mix_columns x)
 unfolding mix_columns

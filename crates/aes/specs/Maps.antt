@@ -1,5 +1,5 @@
 -- The two maps of an AES engine on blocks, and what the engine of a key is. Assumes nothing.
-use Rattle.std.specs.Prelude.{ℕ, ◌*◌, cond, List, [], map, length, Ok, Err, Result, ◌==◌}
+use Rattle.std.specs.Prelude.{ℕ, ◌*◌, cond, List, [], length, Ok, Err, Result, ◌==◌}
 use Rattle.block.specs.Arith.{from_bytes, to_bytes}
 use Rattle.block.specs.Blocks.{arith128}
 use Rattle.block.specs.declared.block128.Block128.{Block128}

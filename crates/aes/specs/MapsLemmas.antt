@@ -76,8 +76,8 @@ keys_fit k = (state_fit k.first, all_fit k.middle, state_fit k.last)
 
 pub undoes : (w : Keys) (left : ℕ) → FitKeys w → Undoes (keyed w left)
 undoes w left h = record {
-  dec_enc = undone (inv_cipher w) (cipher w) (λ y. cipher_fit w y h) (λ y. rounds_undo.inv_cipher_lem w y h);
-  enc_dec = undone (cipher w) (inv_cipher w) (λ y. inv_cipher_fit w y h) (λ y. rounds_undo.cipher_inv w y h);
+  dec_enc = undone (inv_cipher w) (cipher w) (λ y. cipher_fit w y h) (λ y. rounds_undo.inv_of_cipher w y h);
+  enc_dec = undone (cipher w) (inv_cipher w) (λ y. inv_cipher_fit w y h) (λ y. rounds_undo.cipher_of_inv w y h);
 }
 
 pub enciphered : (k : RoundKeys) (x r : Block128) (v : ℕ) → r ≡ make128 v → v ≡ value_of 16 (bytes_in (cipher (keys_in k) (state (digits 16 x.value)))) → r ≡ on_block (cipher (keys_in k)) x

@@ -18,10 +18,10 @@ inv_affine b = bit_xor (turned 6 b) (bit_xor (turned 3 b) (bit_xor (turned 1 b) 
 unfoldable pub s_box : ℕ → ℕ
 s_box b = affine (inverse b)
 
-unfoldable pub inv_sBox : ℕ → ℕ
-inv_sBox b = inverse (inv_affine b)
+unfoldable pub inv_s_box : ℕ → ℕ
+inv_s_box b = inverse (inv_affine b)
 
 -- each undoes the other
 pub record BoxesUndo : Type 0 where
-  pub inv_sub : (x : ℕ) → x < 256 → inv_sBox (s_box x) ≡ x
-  pub sub_inv : (x : ℕ) → x < 256 → s_box (inv_sBox x) ≡ x
+  pub inv_sub : (x : ℕ) → x < 256 → inv_s_box (s_box x) ≡ x
+  pub sub_inv : (x : ℕ) → x < 256 → s_box (inv_s_box x) ≡ x

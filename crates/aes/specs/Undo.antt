@@ -1,7 +1,7 @@
 -- Each step of a round is undone, and so are the rounds over any keys. Assumes nothing.
 use Rattle.std.specs.Prelude.{◌≡◌, ℕ, ◌<◌, List, [], ◌∷◌, refl}
 use Rattle.std.proofs.Common.{ap, ◌∙◌}
-use Rattle.aes.specs.SBox.{s_box, inv_sBox}
+use Rattle.aes.specs.SBox.{s_box, inv_s_box}
 use Rattle.aes.specs.State.{Column, State, column, columns, each, every, Bytes, Fit, AllFit}
 use Rattle.aes.specs.Cipher.{sub_bytes, shift_rows, mix_columns, plus, add_round_key, inv_sub_bytes, inv_shift_rows, inv_mix_columns, whole_round, last_round, rounds, cipher, inv_whole_round, inv_last_round, inv_rounds, inv_cipher, StepsUndo, RoundsUndo}
 use Rattle.aes.specs.FieldLemmas.{xor_undo}
@@ -35,10 +35,10 @@ abbrev unstirred : State → State
 unstirred x = inv_sub_bytes (inv_shift_rows x)
 
 unstirred_stirred : (x : State) → Fit x → unstirred (stirred x) ≡ x
-unstirred_stirred = bytes_undone inv_sBox s_box boxes_undo.inv_sub
+unstirred_stirred = bytes_undone inv_s_box s_box boxes_undo.inv_sub
 
 stirred_unstirred : (x : State) → Fit x → stirred (unstirred x) ≡ x
-stirred_unstirred x h = ap shift_rows (bytes_undone s_box inv_sBox boxes_undo.sub_inv (inv_shift_rows x) (inv_shift_fit x h))
+stirred_unstirred x h = ap shift_rows (bytes_undone s_box inv_s_box boxes_undo.sub_inv (inv_shift_rows x) (inv_shift_fit x h))
 
 -- ---- the rounds: between two of them stands what is substituted and shifted
 
@@ -67,11 +67,11 @@ redo_rounds (k ∷ ks) y (hk, t) h =
 pub rounds_undo : RoundsUndo
 unfolding cipher inv_cipher last_round inv_last_round
 rounds_undo = record {
-  inv_cipher_lem = λ w x (hf, hm, hl) h.
+  inv_of_cipher = λ w x (hf, hm, hl) h.
       let y = add_round_key x w.first in
       ap (λ z. add_round_key (unstirred (inv_rounds w.middle z)) w.first) (add_add (stirred (rounds w.middle y)) w.last)
       ∙ ap (λ z. add_round_key z w.first) (undo_rounds w.middle y hm (add_fit x w.first h hf)) ∙ add_add x w.first;
-  cipher_inv = λ w x (hf, hm, hl) h.
+  cipher_of_inv = λ w x (hf, hm, hl) h.
       let y = add_round_key x w.last in
       ap (λ z. add_round_key (stirred (rounds w.middle z)) w.last) (add_add (unstirred (inv_rounds w.middle y)) w.first)
       ∙ ap (λ z. add_round_key z w.last) (redo_rounds w.middle y hm (add_fit x w.last h hl)) ∙ add_add x w.last;

@@ -2,7 +2,7 @@
 -- to a column of the next state. Assumes nothing.
 use Rattle.std.specs.Prelude.{◌≡◌, ℕ, ◌+◌, ◌*◌, ◌/◌, ◌%◌, ◌^◌, bit_xor}
 use Rattle.aes.specs.Field.{times}
-use Rattle.aes.specs.SBox.{s_box, inv_sBox}
+use Rattle.aes.specs.SBox.{s_box, inv_s_box}
 use Rattle.aes.specs.State.{Column, State, column, columns}
 use Rattle.aes.specs.Cipher.{inv_mix_column}
 use Rattle.aes.specs.declared.words.Words.{Words}
@@ -34,10 +34,10 @@ unfoldable pub mixing1 : ℕ → ℕ
 mixing1 x = packed (brought1 2 3 1 1 (s_box x))
 
 unfoldable pub unmixing0 : ℕ → ℕ
-unmixing0 x = packed (brought0 14 11 13 9 (inv_sBox x))
+unmixing0 x = packed (brought0 14 11 13 9 (inv_s_box x))
 
 unfoldable pub unmixing1 : ℕ → ℕ
-unmixing1 x = packed (brought1 14 11 13 9 (inv_sBox x))
+unmixing1 x = packed (brought1 14 11 13 9 (inv_s_box x))
 
 -- a word's two halves, exchanged: what turns columns 0 and 1 of the matrix into columns 2 and 3
 abbrev pub swapped : ℕ → ℕ

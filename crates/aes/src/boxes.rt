@@ -1,6 +1,6 @@
 // What the tables hold, by rule.
 ghost use Rattle.std.specs.Prelude.{◌≡◌};
-ghost use Rattle.aes.specs.SBox.{s_box, inv_sBox};
+ghost use Rattle.aes.specs.SBox.{s_box, inv_s_box};
 ghost use Rattle.aes.specs.Words.{mixing0, mixing1, unmixing0, unmixing1};
 
 use crate::inv_tables::{INV_SBOX, UNMIXING};
@@ -13,7 +13,7 @@ pub(crate) fn substitute(x: u8) -> u8
 }
 
 pub(crate) fn inv_substitute(x: u8) -> u8
-    ensures { result ≡ inv_sBox x }
+    ensures { result ≡ inv_s_box x }
 {
     INV_SBOX[x as usize]
 }

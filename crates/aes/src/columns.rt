@@ -1,6 +1,6 @@
 // One column of the next state, as a word, from the four words that ShiftRows brings it together from.
 ghost use Rattle.std.specs.Prelude.{◌≡◌};
-ghost use Rattle.aes.specs.SBox.{s_box, inv_sBox};
+ghost use Rattle.aes.specs.SBox.{s_box, inv_s_box};
 ghost use Rattle.aes.specs.State.{column};
 ghost use Rattle.aes.specs.Words.{packed, unpacked, mixing0, mixing1, unmixing0, unmixing1, swapped, mixed_word, plain_word};
 
@@ -76,7 +76,7 @@ pub(crate) fn substituted(w: u32, x: u32, y: u32, z: u32, k: u32) -> u32
 
 // InvSubBytes alone.
 pub(crate) fn inv_substituted(w: u32, x: u32, y: u32, z: u32, k: u32) -> u32
-    ensures { result ≡ plain_word inv_sBox w x y z k }
+    ensures { result ≡ plain_word inv_s_box w x y z k }
 {
     let rows = pack(
         boxes::inv_substitute(row0(w)),

@@ -1,10 +1,10 @@
 // AES-128 to FIPS 197, both ways, as an engine.
 #![tactic(auto)]
 
+mod aes128;
 mod boxes;
 mod cipher;
 mod columns;
-mod engine;
 mod inv_tables;
 mod key;
 mod keys;
@@ -14,5 +14,5 @@ mod tables;
 mod theorems;
 mod words;
 
-pub use engine::Aes128;
+pub use aes128::Aes128;
 pub use theorems::{boxes_undo, inverse_is_one, published_examples, rounds_undo, steps_undo};

@@ -1,6 +1,6 @@
 // The rounds, both ways, over any round keys.
 ghost use Rattle.std.specs.Prelude.{◌≡◌, map};
-ghost use Rattle.aes.specs.SBox.{s_box, inv_sBox};
+ghost use Rattle.aes.specs.SBox.{s_box, inv_s_box};
 ghost use Rattle.aes.specs.Cipher.{rounds, inv_rounds};
 ghost use Rattle.aes.specs.Keyed.{key_of};
 ghost use Rattle.aes.specs.Words.{state_of, mixing0, mixing1, unmixing0, unmixing1, mixed_word, plain_word, shifted, inv_shifted};
@@ -46,7 +46,7 @@ fn inv_whole_round(x: Words, k: &Words) -> Words
 }
 
 pub(crate) fn inv_last_round(x: Words, k: &Words) -> Words
-    ensures { result ≡ inv_shifted (plain_word inv_sBox) k.now x }
+    ensures { result ≡ inv_shifted (plain_word inv_s_box) k.now x }
 {
     Words {
         c0: columns::inv_substituted(x.c0, x.c3, x.c2, x.c1, k.c0),

@@ -13,7 +13,8 @@ const CONSTANTS: [u32; 10] = [
 ];
 
 fn constant(i: usize) -> u32
-    requires { (0 < i) × (i < 11) }
+    requires above { 0 < i }
+    requires below { i < 11 }
     ensures { result ≡ packed (rcon i) }
 {
     CONSTANTS[i - 1]
@@ -33,7 +34,9 @@ fn sub_word(t: u32) -> u32
 
 // What word i takes in besides word i − nk, where t is word i − 1.
 fn taken_in(nk: usize, i: usize, t: u32) -> u32
-    requires { (0 < nk) × ((0 < i / nk) × (i / nk < 11)) }
+    requires some { 0 < nk }
+    requires above { 0 < i / nk }
+    requires below { i / nk < 11 }
     ensures { unpacked result ≡ taken nk i (unpacked t) }
 {
     if i % nk == 0 {
@@ -47,7 +50,9 @@ fn taken_in(nk: usize, i: usize, t: u32) -> u32
 
 // The first nk words of w are the key; the others are filled in.
 fn expand(nk: usize, w: &mut [u32])
-    requires { (0 < nk) × ((nk ≤ length w.old) × (length w.old ≤ 11 * nk)) }
+    requires some { 0 < nk }
+    requires key_in { nk ≤ length w.old }
+    requires below { length w.old ≤ 11 * nk }
     ensures { map unpacked w.new ≡ expansion nk (length w.old - nk) (map unpacked (take nk w.old)) }
 {
     for i in nk..w.len() {
@@ -65,7 +70,8 @@ fn word_at(key: &[u8], i: usize) -> u32
 
 // Writes the words of the key to the front of w.
 fn load(nk: usize, key: &[u8], w: &mut [u32])
-    requires { (4 * nk ≤ length key.now) × (nk ≤ length w.old) }
+    requires key_long { 4 * nk ≤ length key.now }
+    requires room { nk ≤ length w.old }
     ensures { map unpacked (take nk w.new) ≡ key_words nk key.now }
 {
     for i in 0..nk {
