@@ -37,7 +37,8 @@ pub fn block_count<B: Block>(bits: usize) -> usize
 
 // Block `i` of the memory, counted from 1.
 pub fn block_at<B: Block>(memory: &[u8], i: usize) -> B
-    requires { (1 ≤ i) × (i * B.Block.arith.size ≤ length memory.now) }
+    requires numbered { 1 ≤ i }
+    requires inside { i * B.Block.arith.size ≤ length memory.now }
     ensures { result ≡ held B.Block.arith memory.now i }
 {
     let size = B::size();
@@ -78,7 +79,8 @@ fn last_start<B: Block>(bits: usize) -> usize
 
 // The first `rest` bits of `tail`, short of a block, as a padded block.
 fn padded_block<B: Block>(tail: &[u8], rest: usize) -> B
-    requires { (rest < 8 * B.Block.arith.size) × (rest ≤ 8 * length tail.now) }
+    requires short { rest < 8 * B.Block.arith.size }
+    requires inside { rest ≤ 8 * length tail.now }
     ensures { result ≡ B.Block.arith.pack (padded B.Block.arith (take rest (bits_of tail.now))) }
 {
     let bytes = padded_bytes(tail, rest);
@@ -87,7 +89,8 @@ fn padded_block<B: Block>(tail: &[u8], rest: usize) -> B
 
 // The first `rest` bits of `tail`, then a 1 and zeros, to 128 bits; `tail` may end right behind them.
 fn padded_bytes(tail: &[u8], rest: usize) -> [u8; 16]
-    requires { (rest < 128) × (rest ≤ 8 * length tail.now) }
+    requires short { rest < 128 }
+    requires inside { rest ≤ 8 * length tail.now }
     ensures { bits_of result ≡ take rest (bits_of tail.now) ++ (true ∷ replicate (127 - rest) false) }
 {
     let full = rest / 8;

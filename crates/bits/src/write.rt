@@ -8,7 +8,9 @@ use block::Block;
 
 // Writes the first `count` bits of `edit` at bit `position` of the memory; every other bit stays.
 pub fn write_bits(memory: &mut [u8], position: usize, edit: &[u8], count: usize)
-    requires { (position + count ≤ 8 * length memory.old) × ((count ≤ 8 * length edit.now) × (length memory.old ≤ 65536)) }
+    requires room { position + count ≤ 8 * length memory.old }
+    requires given { count ≤ 8 * length edit.now }
+    requires small { length memory.old ≤ 65536 }
     ensures { memory.new ≡ written memory.old position edit.now count }
 {
     if position % 8 == 0 {
@@ -20,7 +22,8 @@ pub fn write_bits(memory: &mut [u8], position: usize, edit: &[u8], count: usize)
 
 // Writes block `i` of the memory, counted from 1; every other byte stays.
 pub fn write_block<B: Block>(memory: &mut [u8], i: usize, block: B)
-    requires { (1 ≤ i) × (i * B.Block.arith.size ≤ length memory.old) }
+    requires numbered { 1 ≤ i }
+    requires inside { i * B.Block.arith.size ≤ length memory.old }
     ensures { memory.new ≡ replaced B.Block.arith memory.old i block }
 {
     let size = B::size();
@@ -30,7 +33,9 @@ pub fn write_block<B: Block>(memory: &mut [u8], i: usize, block: B)
 
 // From a byte's first bit on: whole bytes are copied, and only the bits behind them spliced.
 fn copy_bits(memory: &mut [u8], start: usize, edit: &[u8], count: usize)
-    requires { (8 * start + count ≤ 8 * length memory.old) × ((count ≤ 8 * length edit.now) × (length memory.old ≤ 65536)) }
+    requires room { 8 * start + count ≤ 8 * length memory.old }
+    requires given { count ≤ 8 * length edit.now }
+    requires small { length memory.old ≤ 65536 }
     ensures { bits_of memory.new ≡ paste (bits_of memory.old) (8 * start) (bits_of edit.now) count }
 {
     let whole = count / 8;
@@ -40,7 +45,9 @@ fn copy_bits(memory: &mut [u8], start: usize, edit: &[u8], count: usize)
 
 // Byte by byte, each with the bits that fall into it.
 fn splice_bits(memory: &mut [u8], position: usize, edit: &[u8], count: usize)
-    requires { (position + count ≤ 8 * length memory.old) × ((count ≤ 8 * length edit.now) × (length memory.old ≤ 65536)) }
+    requires room { position + count ≤ 8 * length memory.old }
+    requires given { count ≤ 8 * length edit.now }
+    requires small { length memory.old ≤ 65536 }
     ensures { bits_of memory.new ≡ paste (bits_of memory.old) position (bits_of edit.now) count }
 {
     let mut done = 0;

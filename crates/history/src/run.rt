@@ -74,7 +74,8 @@ fn keep(given: Option<Slip>, slips: &mut Vec<Slip>)
 
 // Notes a call's slip and what is told of it.
 fn note<E: Engine>(stepped: Stepped<E>, slips: &mut Vec<Slip>, replies: &mut Vec<Reply>) -> Stage<E>
-    requires { (vec_len slips.old < vec_capacity slips.old) × (vec_len replies.old < vec_capacity replies.old) }
+    requires slip_room { vec_len slips.old < vec_capacity slips.old }
+    requires reply_room { vec_len replies.old < vec_capacity replies.old }
     ensures stage { result ≡ stepped.stage }
     ensures slips { shown slips.new.items ≡ shown slips.old.items ++ slip_of stepped.slip }
     ensures told { replies.new.items ≡ replies.old.items ++ (telling_of E.Engine.means stepped ∷ []) }
@@ -98,7 +99,8 @@ fn advance<E: Engine>(
     replies: &mut Vec<Reply>,
     call: &Call<'_>,
 ) -> Stage<E>
-    requires { (vec_len slips.old < vec_capacity slips.old) × (vec_len replies.old < vec_capacity replies.old) }
+    requires slip_room { vec_len slips.old < vec_capacity slips.old }
+    requires reply_room { vec_len replies.old < vec_capacity replies.old }
     ensures after { desk_of E.Engine.means result memory.new ledger.new.accounts slips.new.items ≡ (called E.Block.Block.arith (desk_of E.Engine.means stage memory.old ledger.old.accounts slips.old.items) (call_of call.now)).desk }
     ensures told { (x : CodeReply) × ((replies.new.items ≡ replies.old.items ++ (x ∷ [])) × Advances E.Block.Block.arith (desk_of E.Engine.means stage memory.old ledger.old.accounts slips.old.items) (call_of call.now) (reply_of x) (desk_of E.Engine.means result memory.new ledger.new.accounts slips.new.items)) }
     ensures room { (vec_len slips.new ≤ vec_len slips.old + 1) × (vec_capacity slips.new ≡ vec_capacity slips.old) }
@@ -117,7 +119,8 @@ fn resume<E: Engine>(
     replies: &mut Vec<Reply>,
     calls: &[Call<'_>],
 ) -> Stage<E>
-    requires { (vec_len slips.old + length calls.now ≤ vec_capacity slips.old) × (vec_len replies.old + length calls.now ≤ vec_capacity replies.old) }
+    requires slip_room { vec_len slips.old + length calls.now ≤ vec_capacity slips.old }
+    requires reply_room { vec_len replies.old + length calls.now ≤ vec_capacity replies.old }
     ensures after { desk_of E.Engine.means result memory.new ledger.new.accounts slips.new.items ≡ ran E.Block.Block.arith (desk_of E.Engine.means stage memory.old ledger.old.accounts slips.old.items) (calls_of calls.now) }
     ensures told { (xs : List CodeReply) × ((replies.new.items ≡ replies.old.items ++ xs) × Runs E.Block.Block.arith (desk_of E.Engine.means stage memory.old ledger.old.accounts slips.old.items) (calls_of calls.now) (replies_of xs) (desk_of E.Engine.means result memory.new ledger.new.accounts slips.new.items)) }
 {

@@ -104,7 +104,8 @@ pub(crate) struct Span {
 
 // From the last block of `low` bits up to the last of `high`, which are no fewer.
 pub(crate) fn blocks_between<B: Block>(low: u32, high: u32) -> Span
-    requires { (low ≤ high) × (high ≤ 524288) }
+    requires ordered { low ≤ high }
+    requires small { high ≤ 524288 }
     ensures from { result.from ≡ blocks B.Block.arith low }
     ensures to { result.to ≡ blocks B.Block.arith high }
     ensures some { 1 ≤ result.from }
@@ -119,7 +120,8 @@ pub(crate) fn blocks_between<B: Block>(low: u32, high: u32) -> Span
 
 // The blocks before the last that hold one of `count` bits from `position` on, which stand.
 pub(crate) fn touched_blocks<B: Block>(bits: u32, position: u32, count: u32) -> Span
-    requires { (position + count ≤ bits) × (bits ≤ 524288) }
+    requires within { position + count ≤ bits }
+    requires small { bits ≤ 524288 }
     ensures from { result.from ≡ «touched_from» B.Block.arith position }
     ensures count { result.to - result.from ≡ touched_of B.Block.arith bits position count }
     ensures some { 1 ≤ result.from }

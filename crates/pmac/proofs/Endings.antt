@@ -12,8 +12,8 @@ module _ {B : Type 0} {A : Arith B} (w : Laws A) (l : B) (bs : List Bool) (e : L
   unfolding ending
   ends t f = ap₂ (λ x y. A.plus x (cond y (A.halve l) A.zero)) (ap (λ z. z.block) is) (sym f ∙ ap (λ z. z.whole) is)
 
-  pub ends_whole : (h x : B) → e.whole ≡ true → h ≡ A.halve l → x ≡ A.plus e.block h → x ≡ ending A l (last A bs)
-  ends_whole h x f eh ex = ex ∙ ap (A.plus e.block) eh ∙ ends true f
+  pub ends_whole : e.whole ≡ true → A.plus e.block (A.halve l) ≡ ending A l (last A bs)
+  ends_whole f = ends true f
 
   pub ends_short : e.whole ≡ false → e.block ≡ ending A l (last A bs)
   ends_short f = sym (w.keeps e.block) ∙ ends false f

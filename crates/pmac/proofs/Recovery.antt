@@ -169,9 +169,9 @@ module _ {B : Type 0} {A : Arith B} (w : Laws A) (enc : B → B) (memory : List 
       ea ∙ range l (i + 1) (blocks A b) (omega arith) (omega arith) ∙ ap (λ z. over A (sealed A enc l bs) (i + 1) (blocks A z - (i + 1))) (sym long) in
       ap₂ A.plus (em ∙ ap dec (ey ∙ ap₂ (λ x z. A.plus (A.plus d x) z) ee (ap₂ A.plus front back))) eo
 
-  pub last_found : (l d s half : B) → s ≡ over A (stored A enc l memory) 1 (blocks A b - 1) → half ≡ A.halve l → A.plus (A.plus d s) half ≡ lost_last A enc l d (standing b memory)
+  pub last_found : (l d s : B) → s ≡ over A (stored A enc l memory) 1 (blocks A b - 1) → A.plus (A.plus d s) (A.halve l) ≡ lost_last A enc l d (standing b memory)
   unfolding lost_last
-  last_found l d s half es eh = ap₂ (λ x z. A.plus (A.plus d x) z) (es ∙ sym (sums w enc l memory b h)) eh
+  last_found l d s es = ap (λ x. A.plus (A.plus d x) (A.halve l)) (es ∙ sym (sums w enc l memory b h))
 
   module _ (dec : B → B) (t l d : B) (i : ℕ) (el : l ≡ enc A.zero) (ed : d ≡ dec t) where
     pub recovered_inner : i < blocks A b → lost_inner A enc dec l d (standing b memory) i ≡ recovered A enc dec t (standing b memory) i

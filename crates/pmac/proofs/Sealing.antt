@@ -34,13 +34,13 @@ module _ {B : Type 0} {A : Arith B} (w : Laws A) (enc : B → B) (memory : List 
       ∙ sym (over_more A (stored A enc l memory) a (i - a)) ∙ ap (over A (stored A enc l memory) a) up
 
 -- L, the sum and the full tag, from their parts
-pub sealing_made : {B : Type 0} {A : Arith B} (w : Laws A) (enc : B → B) (memory : List ℕ) (b : ℕ) → b ≤ 8 * length memory → (l s end all tag : B)
-    → l ≡ enc A.zero → s ≡ over A (stored A enc l memory) 1 (blocks A b - 1) → end ≡ ending A l (last A (standing b memory)) → all ≡ A.plus s end → tag ≡ enc all
+pub sealing_made : {B : Type 0} {A : Arith B} (w : Laws A) (enc : B → B) (memory : List ℕ) (b : ℕ) → b ≤ 8 * length memory → (l s end tag : B)
+    → l ≡ enc A.zero → s ≡ over A (stored A enc l memory) 1 (blocks A b - 1) → end ≡ ending A l (last A (standing b memory)) → tag ≡ enc (A.plus s end)
     → ◌≡◌ {A = SealedBits B} (record { l = l; sum = s; tag = tag }) (sealing A enc (standing b memory))
 unfolding full
-sealing_made {A = A} w enc memory b h l s end all tag el es ee ea et =
+sealing_made {A = A} w enc memory b h l s end tag el es ee et =
     let bs = standing b memory in
     let sum_is : s ≡ sum A enc (enc A.zero) bs = es ∙ sym (sums w enc l memory b h) ∙ ap (λ z. sum A enc z bs) el in
     let end_is : end ≡ ending A (enc A.zero) (last A bs) = ee ∙ ap (λ z. ending A z (last A bs)) el in
-    let tag_is : tag ≡ full A enc bs = et ∙ ap enc (ea ∙ ap₂ A.plus sum_is end_is) in
+    let tag_is : tag ≡ full A enc bs = et ∙ ap enc (ap₂ A.plus sum_is end_is) in
     ap₂ (λ x y. record { l = x; sum = y; tag = tag }) el sum_is ∙ ap (λ z. record { l = enc A.zero; sum = sum A enc (enc A.zero) bs; tag = z }) tag_is

@@ -32,9 +32,6 @@ module _ {B : Type 0} where
     pub asked_ok : (y : B) → r ≡ Ok y → y ≡ f m b
     asked_ok y g = ok_same y (f m b) r g asked_gives
 
-    pub asked_never : (fault : EngineFault) → r ≡ Err fault → ⊥
-    asked_never fault g = let given = asked_gives in let no : ◌≡◌ {A = ℕ} 0 1 = cc in omega arith
-
   -- Enc of one block and then Dec of another
   pub asked_both : (m k j : Meaning B) (x y ex dy : B) (r s : Result B EngineFault) → 2 ≤ m.left → r ≡ answered m.left (m.enc x) → k ≡ spent 1 m → r ≡ Ok ex
       → s ≡ answered k.left (k.dec y) → j ≡ spent 1 k → s ≡ Ok dy → (ex ≡ m.enc x) × (dy ≡ m.dec y) × (j ≡ spent 2 m)

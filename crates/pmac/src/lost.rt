@@ -17,7 +17,11 @@ pub fn lost_block<E: Engine>(
     tag: E::Block,
     i: usize,
 ) -> Result<E::Block, EngineFault>
-    requires { (bits ≤ 524288) × ((bits ≤ 8 * length memory.now) × ((1 ≤ i) × ((i ≤ blocks E.Block.Block.arith bits) × (blocks E.Block.Block.arith bits + 1 ≤ (E.Engine.means engine.old).left)))) }
+    requires small { bits ≤ 524288 }
+    requires in_memory { bits ≤ 8 * length memory.now }
+    requires numbered { 1 ≤ i }
+    requires counted { i ≤ blocks E.Block.Block.arith bits }
+    requires afforded { blocks E.Block.Block.arith bits + 1 ≤ (E.Engine.means engine.old).left }
     ensures answer { result ≡ Ok (recovered E.Block.Block.arith (E.Engine.means engine.old).enc (E.Engine.means engine.old).dec tag (standing bits memory.now) i) }
     ensures after { E.Engine.means engine.new ≡ spent (blocks E.Block.Block.arith bits + 1) (E.Engine.means engine.old) }
 {
@@ -39,7 +43,10 @@ fn inner_block<E: Engine>(
     opened: E::Block,
     i: usize,
 ) -> Result<E::Block, EngineFault>
-    requires { (bits ≤ 8 * length memory.now) × ((1 ≤ i) × ((i < blocks E.Block.Block.arith bits) × (blocks E.Block.Block.arith bits - 1 ≤ (E.Engine.means engine.old).left))) }
+    requires in_memory { bits ≤ 8 * length memory.now }
+    requires numbered { 1 ≤ i }
+    requires counted { i < blocks E.Block.Block.arith bits }
+    requires afforded { blocks E.Block.Block.arith bits - 1 ≤ (E.Engine.means engine.old).left }
     ensures answer { result ≡ Ok (lost_inner E.Block.Block.arith (E.Engine.means engine.old).enc (E.Engine.means engine.old).dec l opened (standing bits memory.now) i) }
     ensures after { E.Engine.means engine.new ≡ spent (blocks E.Block.Block.arith bits - 1) (E.Engine.means engine.old) }
 {
@@ -60,7 +67,8 @@ fn last_block<E: Engine>(
     l: E::Block,
     opened: E::Block,
 ) -> Result<E::Block, EngineFault>
-    requires { (bits ≤ 8 * length memory.now) × (blocks E.Block.Block.arith bits - 1 ≤ (E.Engine.means engine.old).left) }
+    requires in_memory { bits ≤ 8 * length memory.now }
+    requires afforded { blocks E.Block.Block.arith bits - 1 ≤ (E.Engine.means engine.old).left }
     ensures answer { result ≡ Ok (lost_last E.Block.Block.arith (E.Engine.means engine.old).enc l opened (standing bits memory.now)) }
     ensures after { E.Engine.means engine.new ≡ spent (blocks E.Block.Block.arith bits - 1) (E.Engine.means engine.old) }
 {

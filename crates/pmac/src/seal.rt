@@ -39,7 +39,8 @@ fn seal_block<E: Engine>(
     i: usize,
     offset: E::Block,
 ) -> Result<E::Block, EngineFault>
-    requires { (1 ≤ i) × (i * E.Block.Block.arith.size ≤ length memory.now) }
+    requires numbered { 1 ≤ i }
+    requires inside { i * E.Block.Block.arith.size ≤ length memory.now }
     ensures answer { result ≡ answered (E.Engine.means engine.old).left ((E.Engine.means engine.old).enc (E.Block.Block.arith.plus (held E.Block.Block.arith memory.now i) offset)) }
     ensures after { E.Engine.means engine.new ≡ spent 1 (E.Engine.means engine.old) }
 {
@@ -55,7 +56,10 @@ pub fn seal_blocks<E: Engine>(
     from: usize,
     to: usize,
 ) -> Result<E::Block, EngineFault>
-    requires { (1 ≤ from) × ((from ≤ to) × (((to - 1) * E.Block.Block.arith.size ≤ length memory.now) × (to - from ≤ (E.Engine.means engine.old).left))) }
+    requires numbered { 1 ≤ from }
+    requires ordered { from ≤ to }
+    requires inside { (to - 1) * E.Block.Block.arith.size ≤ length memory.now }
+    requires afforded { to - from ≤ (E.Engine.means engine.old).left }
     ensures answer { result ≡ Ok (over E.Block.Block.arith (stored E.Block.Block.arith (E.Engine.means engine.old).enc l memory.now) from (to - from)) }
     ensures after { E.Engine.means engine.new ≡ spent (to - from) (E.Engine.means engine.old) }
 {
@@ -69,20 +73,34 @@ pub fn seal_blocks<E: Engine>(
     Ok(sum)
 }
 
+// The tag, from the sum and what the last block adds to it.
+fn closed<E: Engine>(
+    engine: &mut E,
+    sum: E::Block,
+    ending: E::Block,
+) -> Result<E::Block, EngineFault>
+    requires { 1 ≤ (E.Engine.means engine.old).left }
+    ensures answer { result ≡ Ok ((E.Engine.means engine.old).enc (E.Block.Block.arith.plus sum ending)) }
+    ensures after { E.Engine.means engine.new ≡ spent 1 (E.Engine.means engine.old) }
+{
+    engine.encipher(sum.xor(ending))
+}
+
 // L, the sum and the full tag of the memory's first `bits` bits.
 pub fn sealed_bits<E: Engine>(
     engine: &mut E,
     memory: &[u8],
     bits: usize,
 ) -> Result<SealedBits<E::Block>, EngineFault>
-    requires { (bits ≤ 8 * length memory.now) × (blocks E.Block.Block.arith bits + 1 ≤ (E.Engine.means engine.old).left) }
+    requires in_memory { bits ≤ 8 * length memory.now }
+    requires afforded { blocks E.Block.Block.arith bits + 1 ≤ (E.Engine.means engine.old).left }
     ensures answer { result ≡ Ok (sealing E.Block.Block.arith (E.Engine.means engine.old).enc (standing bits memory.now)) }
     ensures after { E.Engine.means engine.new ≡ spent (blocks E.Block.Block.arith bits + 1) (E.Engine.means engine.old) }
 {
     let l = engine.encipher(E::Block::zero())?;
     let count = bits::block_count::<E::Block>(bits);
     let sum = seal_blocks(engine, memory, l, 1, count)?;
-    let tag = engine.encipher(sum.xor(ending(memory, bits, l)))?;
+    let tag = closed(engine, sum, ending(memory, bits, l))?;
     Ok(SealedBits { l, sum, tag })
 }
 
@@ -92,7 +110,8 @@ pub(crate) fn sealed<E: Engine>(
     memory: &[u8],
     bits: usize,
 ) -> Result<E::Block, EngineFault>
-    requires { (bits ≤ 8 * length memory.now) × (blocks E.Block.Block.arith bits + 1 ≤ (E.Engine.means engine.old).left) }
+    requires in_memory { bits ≤ 8 * length memory.now }
+    requires afforded { blocks E.Block.Block.arith bits + 1 ≤ (E.Engine.means engine.old).left }
     ensures answer { result ≡ Ok (full_of E.Block.Block.arith (E.Engine.means engine.old).enc (standing bits memory.now)) }
     ensures after { E.Engine.means engine.new ≡ spent (blocks E.Block.Block.arith bits + 1) (E.Engine.means engine.old) }
 {

@@ -8,7 +8,7 @@ pub loop-call-init : goal.loop-call-init
 loop-call-init g c =
     let items = vec_items c.args.replies.now in
     let d = desk_of g.E.Engine.means c.args.stage c.args.memory.now c.args.ledger.now.accounts (vec_items c.args.slips.now) in
-    ((let h = c.requires.0 in omega arith), ((let h = c.requires.1 in omega arith), (refl, ([], (sym (append-nil items), runs_none g.E.Block.Block.arith d)))))
+    ((let h = c.requires.slip_room in omega arith), ((let h = c.requires.reply_room in omega arith), (refl, ([], (sym (append-nil items), runs_none g.E.Block.Block.arith d)))))
 
 pub loop-call-preserved : goal.loop-call-preserved
 loop-call-preserved g c =

@@ -9,12 +9,22 @@ use Rattle.pmac.proofs.lost.inner_block.Goals as goal
 
 pub seal_blocks-requires : goal.seal_blocks-requires
 seal_blocks-requires g c =
-    (omega arith, (omega arith, (in_memory g.met.E.Block.Block.laws c.args.memory.now c.args.bits c.args.i (omega arith) (omega arith), omega arith)))
+    record {
+      numbered = omega arith;
+      ordered = omega arith;
+      inside = in_memory g.met.E.Block.Block.laws c.args.memory.now c.args.bits c.args.i (omega arith) (omega arith);
+      afforded = omega arith;
+    }
 
 pub seal_blocks-requires-2 : goal.seal_blocks-requires-2
 seal_blocks-requires-2 g c =
     let left = ap (λ z. z.left) c.seal_blocks.ensures.after in
-    (omega arith, (omega arith, (in_memory g.met.E.Block.Block.laws c.args.memory.now c.args.bits c.block_count-count.result (omega arith) (omega arith), omega arith)))
+    record {
+      numbered = omega arith;
+      ordered = omega arith;
+      inside = in_memory g.met.E.Block.Block.laws c.args.memory.now c.args.bits c.block_count-count.result (omega arith) (omega arith);
+      afforded = omega arith;
+    }
 
 pub returns : goal.returns
 returns g c =

@@ -1,4 +1,4 @@
-use Rattle.std.proofs.Common.{◌≡◌, ◌-◌, Ok, ap, ◌∙◌, arith}
+use Rattle.std.proofs.Common.{◌≡◌, ◌-◌, ap, ◌∙◌, arith}
 use Rattle.bits.specs.Blocks.{blocks}
 use Rattle.bits.proofs.Counts.{blocks_some}
 use Rattle.engine.specs.Meaning.{spent}
@@ -13,7 +13,12 @@ pub seal_blocks-requires : goal.seal_blocks-requires
 seal_blocks-requires g c =
     let w = g.met.E.Block.Block.laws in
     let some = blocks_some w c.args.bits in
-    (omega arith, (omega arith, (in_memory w c.args.memory.now c.args.bits c.block_count-count.result (omega arith) (omega arith), omega arith)))
+    record {
+      numbered = omega arith;
+      ordered = omega arith;
+      inside = in_memory w c.args.memory.now c.args.bits c.block_count-count.result (omega arith) (omega arith);
+      afforded = omega arith;
+    }
 
 pub returns : goal.returns
 returns g c =
@@ -25,6 +30,6 @@ returns g c =
     let sum_is : c.in_ok-sum.sum ≡ over A (stored A m.enc l c.args.memory.now) 1 (blocks A c.args.bits - 1) =
     ok_same c.in_ok-sum.sum _ c.seal_blocks.result c.in_ok-sum.was c.seal_blocks.ensures.answer ∙ ap (λ n. over A (stored A m.enc l c.args.memory.now) 1 (n - 1)) count in
     record {
-      answer = ap Ok (c.xor-2.ensures ∙ ap (λ x. A.plus x c.halve.result) c.xor.ensures ∙ last_found w m.enc c.args.memory.now c.args.bits (omega arith) l c.args.opened c.in_ok-sum.sum c.halve.result sum_is c.halve.ensures);
+      answer = let e = last_found w m.enc c.args.memory.now c.args.bits (omega arith) l c.args.opened c.in_ok-sum.sum sum_is in cc;
       after = c.seal_blocks.ensures.after ∙ ap (λ n. spent (n - 1) m) count;
     }

@@ -5,8 +5,7 @@ use Rattle.pmac.proofs.seal.ending.Goals as goal
 
 pub returns-then-last : goal.returns-then-last
 returns-then-last g c =
-    ends_whole g.met.B.Block.laws c.args.l (standing c.args.bits c.args.memory.now) c.last_block-last.result c.last_block-last.ensures
-    c.halve.result c.xor.result (search rules) c.halve.ensures c.xor.ensures
+    let e = ends_whole g.met.B.Block.laws c.args.l (standing c.args.bits c.args.memory.now) c.last_block-last.result c.last_block-last.ensures (search rules) in cc
 
 pub returns-else-last : goal.returns-else-last
 returns-else-last g c =

@@ -17,7 +17,7 @@ loop-i-init g c =
 
 pub seal_block-requires : goal.seal_block-requires
 seal_block-requires g c =
-    (omega arith, inner c.loop-i.i c.args.to g.E.Block.Block.arith.size _ c.loop-i-test.true (omega arith))
+    record { numbered = omega arith; inside = inner c.loop-i.i c.args.to g.E.Block.Block.arith.size _ c.loop-i-test.true (omega arith) }
 
 pub loop-i-preserved : goal.loop-i-preserved
 loop-i-preserved g c =
