@@ -12,7 +12,6 @@ use Rattle.bits.specs.Blocks.{blocks, ceil}
 use Rattle.bits.specs.Memory.{standing, written}
 use Rattle.bits.proofs.Counts.{blocks_inner}
 use Rattle.engine.specs.Refusals.{Refusal}
-use Rattle.engine.specs.Meaning.{Meaning, spent}
 use Rattle.pmac.specs.Pmac.{over, sealed, sum, full}
 use Rattle.pmac.specs.Stored.{stored}
 use Rattle.pmac.specs.Edits.{touched, touched_from, touched_to}
@@ -21,10 +20,10 @@ use Rattle.pmac.proofs.Sums.{drops}
 use Rattle.pmac.proofs.Over.{over_none}
 use Rattle.pmac.proofs.Edits.{adds_written, puts_written}
 use Rattle.pmac.proofs.Prices.{prices}
-use Rattle.overlay.specs.Judging.{judged, open_tests, cut_tests, add_tests, put_tests, tag_tests}
+use Rattle.overlay.specs.Judging.{judged, cut_tests, add_tests, put_tests, tag_tests}
 use Rattle.overlay.specs.Receiving.{did}
-use Rattle.overlay.specs.Calls.{State, World, After, Start, begun, back, begin, sent, cut, cut_done, add, add_done, put, put_done, tag, tag_done}
-use Rattle.overlay.specs.Laws.{Stands, then, Edits, Adds, Cuts, Puts, Tags, Opens}
+use Rattle.overlay.specs.Calls.{State, World, After, sent, cut, cut_done, add, add_done, put, put_done, tag, tag_done}
+use Rattle.overlay.specs.Laws.{Stands, then, Edits, Adds, Cuts, Puts, Tags}
 
 pub length_standing : (b : ℕ) (memory : List ℕ) → b ≤ 8 * length memory → length (standing b memory) ≡ b
 length_standing b memory h = length-take-le b (bits_of memory) (let e = length_bits_of memory in omega arith)
@@ -205,9 +204,3 @@ module _ {B : Type 0} {A : Arith B} (w : arithmetic.Laws A) where
       one : (n : ℕ) → blocks A 0 - 1 ≡ n → n ≡ 0
       one zero e = refl
       one (suc n) e = let h = blocks_inner w 0 1 (omega arith) (omega arith) in omega arith
-
-  pub open_law : (m : Meaning B) (memory : List ℕ) (a : Start A) → a ≡ begin A m memory → Opens A a
-  open_law m memory a e =
-      let empty : Opens A (begun (record { bits = 0; l = m.enc A.zero; sum = A.zero; engine = spent 1 m }) 1) =
-      λ any. record { fits = omega arith; first = refl; l_is = refl; sum_is = sym (sum_none m.enc (m.enc A.zero)) } in
-      subst (Opens A) (sym e) (judged_by (Opens A) (λ r. back m r 0) m.left (open_tests (length memory)) 1 (begun (record { bits = 0; l = m.enc A.zero; sum = A.zero; engine = spent 1 m }) 1) (λ _. tt) (λ _ _. empty))
