@@ -6,9 +6,9 @@ use Rattle.block.specs.Arith as arithmetic
 use Rattle.block.specs.Arith.{Arith}
 use Rattle.engine.specs.Meaning.{Meaning}
 use Rattle.overlay.specs.declared.ledger.Account.{Account}
-use Rattle.overlay.proofs.Laws.{length_standing, judged_by}
+use Rattle.overlay.proofs.Laws.{length_standing, decided_by}
 use Rattle.overlay.specs.Refusals.{refused}
-use Rattle.overlay.specs.Judging.{misfits, open_tests}
+use Rattle.overlay.specs.Judging.{misfits, open_conditions}
 use Rattle.history.specs.Reckoning.{Beginning, opens, receives, Call, Answer, says, returned, Reckoning, Reply, Tells, Run, ends, total, worth, Conserved, beginning}
 use Rattle.history.specs.Desk.{Kept, engine, arrival, open_one, Desk, Moved, totals, bits_in, left_in, Shows, StandsFor, Reckons, Advances, Runs, History, Turn, started, called, ran}
 use Rattle.history.specs.declared.call.Call as code
@@ -136,7 +136,7 @@ module _ {B : Type 0} {A : Arith B} (w : arithmetic.Laws A) (m : Meaning B) (mem
   starts_worth : (b : Beginning) → worth (starting b).1 ≡ amount
   starts_worth opens =
       let P : Answer × Reckoning → Type 0 = λ p. worth p.1 ≡ amount in
-      judged_by P (λ x. (says (refused x) [], record { phase = returned; bits = []; left = m.left; totals = totals accounts; slips = slips ++ (0 ∷ []) })) m.left (open_tests (length memory)) 1 _
+      decided_by P (λ x. (says (refused x) [], record { phase = returned; bits = []; left = m.left; totals = totals accounts; slips = slips ++ (0 ∷ []) })) m.left (open_conditions (length memory)) 1 _
       (λ _. omega (arith, sum_push slips 0)) (λ _ l. omega (arith, sum_push slips 1))
   starts_worth (receives b) =
       let P : Answer × Reckoning → Type 0 = λ p. worth p.1 ≡ amount in

@@ -13,23 +13,23 @@ use Rattle.pmac.specs.Recovery.{placed, recovered}
 use Rattle.pmac.proofs.Prices.{prices}
 use Rattle.pmac.proofs.Recovery.{recoveries, one_block}
 use Rattle.overlay.specs.Refusals.{carried, refused, numbered}
-use Rattle.overlay.specs.Judging.{judged, missing, add_tests, cut_tests, put_tests, tag_tests, recover_tests, whole_due}
-use Rattle.overlay.proofs.Laws.{Passes, judged_by, cut_fair, put_fair}
+use Rattle.overlay.specs.Judging.{decided, missing, add_conditions, cut_conditions, put_conditions, tag_conditions, recover_conditions, whole_due}
+use Rattle.overlay.proofs.Laws.{Passes, decided_by, cut_fair, put_fair}
 use Rattle.history.specs.Reckoning.{Call, checks, recovers, adds, cuts, puts, tags, books, Answer, silent, says, Phase, returned, received, opened, Reckoning, Verdict, untaken, refusal, wrong, granted}
 use Rattle.history.specs.Reckoning.{cost, total as sum_of, worth, when_open, when_received, booking, paid, next, tag_of, verdict, Becomes, given, Goes, Step, bound, Total, Deterministic, Balanced, Fair}
 use Rattle.overlay.specs.Receiving.{same}
 
 -- ---- what holds of a call that is not taken, of every refusal, and of the call carried out where every test passed and left suffices
 open_by : (P : Verdict → Type 0) (phase : Phase) (left : ℕ) (ts : List (Bool × ℕ)) (due : ℕ) (done : Verdict) → P untaken → ((x : Refusal) → P (refusal x))
-    → (Passes ts → due ≤ left → P done) → P (when_open phase (judged refusal left ts due done))
+    → (Passes ts → due ≤ left → P done) → P (when_open phase (decided refusal left ts due done))
 open_by P returned left ts due done away sends does = away
 open_by P received left ts due done away sends does = away
-open_by P opened left ts due done away sends does = judged_by P refusal left ts due done sends does
+open_by P opened left ts due done away sends does = decided_by P refusal left ts due done sends does
 
 received_by : (P : Verdict → Type 0) (phase : Phase) (left : ℕ) (ts : List (Bool × ℕ)) (due : ℕ) (done : Verdict) → P untaken → ((x : Refusal) → P (refusal x))
-    → (Passes ts → due ≤ left → P done) → P (when_received phase (judged refusal left ts due done))
+    → (Passes ts → due ≤ left → P done) → P (when_received phase (decided refusal left ts due done))
 received_by P returned left ts due done away sends does = away
-received_by P received left ts due done away sends does = judged_by P refusal left ts due done sends does
+received_by P received left ts due done away sends does = decided_by P refusal left ts due done sends does
 received_by P opened left ts due done away sends does = away
 
 -- ---- sums of lists
@@ -62,12 +62,12 @@ booking_worth r k i long =
 -- ---- a call's tests, and what it owes
 module _ {B : Type 0} (A : Arith B) (enc : B → B) (size : ℕ) where
   abbrev tests : Reckoning → Call → List (Bool × ℕ)
-  tests r (checks tag) = tag_tests A size (length r.bits) (length tag)
-  tests r (recovers tag i) = recover_tests A size (length r.bits) (length tag) i
-  tests r (adds edit n) = add_tests size (length r.bits) (length edit) n
-  tests r (cuts n) = cut_tests size (length r.bits) n
-  tests r (puts pos edit n) = put_tests size (length r.bits) pos (length edit) n
-  tests r (tags n) = tag_tests A size (length r.bits) n
+  tests r (checks tag) = tag_conditions A size (length r.bits) (length tag)
+  tests r (recovers tag i) = recover_conditions A size (length r.bits) (length tag) i
+  tests r (adds edit n) = add_conditions size (length r.bits) (length edit) n
+  tests r (cuts n) = cut_conditions size (length r.bits) n
+  tests r (puts pos edit n) = put_conditions size (length r.bits) pos (length edit) n
+  tests r (tags n) = tag_conditions A size (length r.bits) n
   tests r (books k i) = []
 
   abbrev due : Reckoning → Call → ℕ

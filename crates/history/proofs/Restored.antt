@@ -12,7 +12,7 @@ use Rattle.pmac.specs.Pmac.{full}
 use Rattle.pmac.specs.Recovery.{placed, recovered}
 use Rattle.pmac.proofs.Places.{places, placed_twice, placed_same}
 use Rattle.pmac.proofs.Recovery.{recoveries}
-use Rattle.overlay.specs.Judging.{judged, misfits, missing, recover_tests, whole_due}
+use Rattle.overlay.specs.Judging.{decided, misfits, missing, recover_conditions, whole_due}
 use Rattle.overlay.specs.Calls.{World, sent}
 use Rattle.overlay.proofs.Laws.{Passes}
 use Rattle.history.specs.Desk.{Turn, arrival, after}
@@ -20,10 +20,10 @@ use Rattle.history.specs.Restoring.{then_recover, restoring, Restores}
 use Rattle.overlay.specs.Receiving.{took, declined, Arrived, did, recover, recover_done}
 
 -- where no test holds and left suffices, a call is carried out
-carried_out : {R : Type 0} (refuse : Refusal → R) (left : ℕ) (ts : List (Bool × ℕ)) (due : ℕ) (done : R) → Passes ts → due ≤ left → judged refuse left ts due done ≡ done
+carried_out : {R : Type 0} (refuse : Refusal → R) (left : ℕ) (ts : List (Bool × ℕ)) (due : ℕ) (done : R) → Passes ts → due ≤ left → decided refuse left ts due done ≡ done
 unfolding Passes
 carried_out refuse left [] due done p l = ap (λ t. cond t (refuse (record { number = 8; told = due ∷ left ∷ [] })) done) (le-ltb left due l)
-carried_out refuse left (t ∷ ts) due done p l = ap (λ z. cond z (refuse (record { number = t.1; told = [] })) (judged refuse left ts due done)) p.0 ∙ carried_out refuse left ts due done p.1 l
+carried_out refuse left (t ∷ ts) due done p l = ap (λ z. cond z (refuse (record { number = t.1; told = [] })) (decided refuse left ts due done)) p.0 ∙ carried_out refuse left ts due done p.1 l
 
 passing : (x y z : Bool) → x ≡ false → y ≡ false → z ≡ false → Passes ((x, 2) ∷ (y, 6) ∷ (z, 7) ∷ [])
 unfolding Passes
@@ -44,9 +44,9 @@ module _ {B : Type 0} {A : Arith B} (w : arithmetic.Laws A) (m : Meaning B) (und
       let fit : misfits (length memory) b ≡ false = ap₂ (λ x y. cond x true y) (le-ltb 65536 (length memory) small) (le-ltb (8 * length memory) b fits) in
       let long : length tag ≡ A.size = ap length et ∙ length_bytes_of A.size (A.unpack (full A m.enc bits)) in
       let whole : missing A b i ≡ false = ap₂ (λ x y. cond x true y) (ne_eqb i 0 (λ z. omega arith)) (le-ltb b (i * width A) (omega arith)) in
-      let all : Passes (recover_tests A (length memory) b (length tag) i) = passing _ _ _ fit (ap not (eq-eqb (length tag) A.size long)) whole in
+      let all : Passes (recover_conditions A (length memory) b (length tag) i) = passing _ _ _ fit (ap not (eq-eqb (length tag) A.size long)) whole in
       let does : recover A start tag i ≡ did (whole_due A b) (recover_done A start tag i) =
-      carried_out (sent start) m.left (recover_tests A (length memory) b (length tag) i) (whole_due A b) (did (whole_due A b) (recover_done A start tag i)) all left in
+      carried_out (sent start) m.left (recover_conditions A (length memory) b (length tag) i) (whole_due A b) (did (whole_due A b) (recover_done A start tag i)) all left in
       let is : t ≡ after arrival (did (whole_due A b) (recover_done A start tag i)) =
       e ∙ ap (λ z. then_recover A memory tag i (cond z (declined m (record { number = 2; told = [] }) 0) (took a 0))) fit ∙ ap (after arrival) does in
       let stands : standing b new ≡ bits =

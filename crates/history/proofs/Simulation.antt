@@ -18,7 +18,7 @@ use Rattle.pmac.specs.Recovery.{placed, recovered}
 use Rattle.pmac.proofs.Places.{places}
 use Rattle.pmac.proofs.Recovery.{recoveries}
 use Rattle.overlay.specs.Refusals.{carried, refused, numbered}
-use Rattle.overlay.specs.Judging.{judged, misfits, open_tests, add_tests, cut_tests, put_tests, tag_tests, recover_tests, missing, whole_due}
+use Rattle.overlay.specs.Judging.{decided, misfits, open_conditions, add_conditions, cut_conditions, put_conditions, tag_conditions, recover_conditions, missing, whole_due}
 use Rattle.overlay.specs.Ledger.{Booked, at}
 use Rattle.overlay.specs.Calls.{State, World, After, Start, back, sent, add, add_done, cut, cut_done, put, put_done, tag, tag_done, taggable}
 use Rattle.overlay.specs.Laws.{Stands, then}
@@ -34,11 +34,11 @@ module _ {R S : Type 0} (P : R → S → Type 0) where
   both true a b c d h k = h refl
   both false a b c d h k = k refl
 
-  judged_both : (f : Refusal → R) (g : Refusal → S) (left : ℕ) (ts : List (Bool × ℕ)) (due : ℕ) (x : R) (y : S) → ((r : Refusal) → P (f r) (g r)) → (Passes ts → due ≤ left → P x y)
-      → P (judged f left ts due x) (judged g left ts due y)
+  decided_both : (f : Refusal → R) (g : Refusal → S) (left : ℕ) (ts : List (Bool × ℕ)) (due : ℕ) (x : R) (y : S) → ((r : Refusal) → P (f r) (g r)) → (Passes ts → due ≤ left → P x y)
+      → P (decided f left ts due x) (decided g left ts due y)
   unfolding Passes
-  judged_both f g left [] due x y sends does = both (ltb left due) _ _ _ _ (λ _. sends _) (λ e. does tt (ltb-false _ _ e))
-  judged_both f g left (t ∷ ts) due x y sends does = both t.0 _ _ _ _ (λ _. sends _) (λ e. judged_both f g left ts due x y sends (λ p l. does (e, p) l))
+  decided_both f g left [] due x y sends does = both (ltb left due) _ _ _ _ (λ _. sends _) (λ e. does tt (ltb-false _ _ e))
+  decided_both f g left (t ∷ ts) due x y sends does = both t.0 _ _ _ _ (λ _. sends _) (λ e. decided_both f g left ts due x y sends (λ p l. does (e, p) l))
 
 -- the reckoning that a desk shows
 abbrev reckoned : Phase → List Bool → ℕ → List Account → List ℕ → Reckoning
@@ -104,9 +104,9 @@ module _ {B : Type 0} {A : Arith B} (w : arithmetic.Laws A) (s : State B) (memor
       → (Passes ts → Becomes A s.engine.enc (length memory) c (standing s.bits memory) bits)
       → (Passes ts → Stands A done.state done.memory bits)
       → done.state.engine ≡ spent due s.engine → length done.memory ≡ length memory
-      → GoesOn c bytes (judged (sent start) s.engine.left ts due (did due done)) (judged refusal s.engine.left ts due (granted due))
+      → GoesOn c bytes (decided (sent start) s.engine.left ts due (did due done)) (decided refusal s.engine.left ts due (granted due))
   goes c start bytes ts due done bits es em none stays_open gives becomes stands spends size =
-      judged_both (GoesOn c bytes) (sent start) refusal s.engine.left ts due (did due done) (granted due)
+      decided_both (GoesOn c bytes) (sent start) refusal s.engine.left ts due (did due done) (granted due)
       (λ x. (
         paid opened (standing s.bits memory) 0 old,
         (
@@ -141,27 +141,27 @@ module _ {B : Type 0} {A : Arith B} (w : arithmetic.Laws A) (s : State B) (memor
   pub added : (edit : List ℕ) (n : ℕ) → Follows A s.engine.enc (length memory) old (adds edit n) (called A desk (adds edit n))
   unfolding Passes
   added edit n =
-      let v : ℕ → Verdict = λ b. judged refusal s.engine.left (add_tests (length memory) b (length edit) n) (add_due A b n) (granted (add_due A b n)) in
+      let v : ℕ → Verdict = λ b. decided refusal s.engine.left (add_conditions (length memory) b (length edit) n) (add_due A b n) (granted (add_due A b n)) in
       let a = add A here edit n in
       let P : ℕ → Type 0 = λ b. GoesOn (adds edit n) (λ _. []) a (v b) in
-      subst P (sym long) (goes (adds edit n) here (λ _. []) (add_tests (length memory) s.bits (length edit) n) (add_due A s.bits n) (add_done A here edit n)
+      subst P (sym long) (goes (adds edit n) here (λ _. []) (add_conditions (length memory) s.bits (length edit) n) (add_due A s.bits n) (add_done A here edit n)
       (standing s.bits memory ++ take n (bits_of edit)) refl refl (λ _. refl) refl (λ _. refl) (λ _. refl)
       (λ t. add_stands w here edit n (standing s.bits memory) (ltb-false _ _ t.1.0) (ltb-false _ _ t.1.1.0) h) refl (length_bytes_of (length memory) _))
 
   pub cut_off : (n : ℕ) → Follows A s.engine.enc (length memory) old (cuts n) (called A desk (cuts n))
   cut_off n =
-      let v : ℕ → Verdict = λ b. judged refusal s.engine.left (cut_tests (length memory) b n) (cut_due A b n) (granted (cut_due A b n)) in
+      let v : ℕ → Verdict = λ b. decided refusal s.engine.left (cut_conditions (length memory) b n) (cut_due A b n) (granted (cut_due A b n)) in
       let P : ℕ → Type 0 = λ b. GoesOn (cuts n) (λ _. []) (cut A here n) (v b) in
-      subst P (sym long) (goes (cuts n) here (λ _. []) (cut_tests (length memory) s.bits n) (cut_due A s.bits n) (cut_done A here n)
+      subst P (sym long) (goes (cuts n) here (λ _. []) (cut_conditions (length memory) s.bits n) (cut_due A s.bits n) (cut_done A here n)
       (take (length (standing s.bits memory) - n) (standing s.bits memory)) refl refl (λ _. refl) refl (λ _. refl) (λ _. refl)
       (λ _. cut_stands w here n (standing s.bits memory) h) refl refl)
 
   pub put_over : (pos : ℕ) (edit : List ℕ) (n : ℕ) → Follows A s.engine.enc (length memory) old (puts pos edit n) (called A desk (puts pos edit n))
   unfolding Passes
   put_over pos edit n =
-      let v : ℕ → Verdict = λ b. judged refusal s.engine.left (put_tests (length memory) b pos (length edit) n) (put_due A b pos n) (granted (put_due A b pos n)) in
+      let v : ℕ → Verdict = λ b. decided refusal s.engine.left (put_conditions (length memory) b pos (length edit) n) (put_due A b pos n) (granted (put_due A b pos n)) in
       let P : ℕ → Type 0 = λ b. GoesOn (puts pos edit n) (λ _. []) (put A here pos edit n) (v b) in
-      subst P (sym long) (goes (puts pos edit n) here (λ _. []) (put_tests (length memory) s.bits pos (length edit) n) (put_due A s.bits pos n) (put_done A here pos edit n)
+      subst P (sym long) (goes (puts pos edit n) here (λ _. []) (put_conditions (length memory) s.bits pos (length edit) n) (put_due A s.bits pos n) (put_done A here pos edit n)
       (paste (standing s.bits memory) pos (bits_of edit) n) refl refl (λ _. refl) refl (λ _. refl) (λ _. refl)
       (λ t. put_stands w here pos edit n (standing s.bits memory) (ltb-false _ _ t.1.0) (ltb-false _ _ t.1.1.0) h) refl (length_bytes_of (length memory) _))
 
@@ -172,11 +172,11 @@ module _ {B : Type 0} {A : Arith B} (w : arithmetic.Laws A) (s : State B) (memor
       let k = length (blank n) in
       let start : World (State B) = record { state = s; memory = memory; buffer = blank n } in
       let bytes : After (State B) → List ℕ = λ a. then a.outcome a.world.buffer [] in
-      let v : ℕ → Bool → Verdict = λ b t. judged refusal s.engine.left ((misfits (length memory) b, 2) ∷ (not t, 6) ∷ []) 1 (granted 1) in
+      let v : ℕ → Bool → Verdict = λ b t. decided refusal s.engine.left ((misfits (length memory) b, 2) ∷ (not t, 6) ∷ []) 1 (granted 1) in
       let P : ℕ → Type 0 = λ b. GoesOn (tags n) bytes (tag A start) (v b (taggable A n)) in
       let Q : Bool → Type 0 = λ t. GoesOn (tags n) bytes (tag A start) (v s.bits t) in
       subst P (sym long) (subst Q (taggable_blank w n)
-      (goes (tags n) start bytes (tag_tests A (length memory) s.bits k) 1 (tag_done A start) (standing s.bits memory) refl refl (λ _. refl) refl
+      (goes (tags n) start bytes (tag_conditions A (length memory) s.bits k) 1 (tag_done A start) (standing s.bits memory) refl refl (λ _. refl) refl
       (λ t. tagged w start (standing s.bits memory) h ∙ ap (λ z. take z (to_bytes A (full A s.engine.enc (standing s.bits memory)))) (blank_whole w n t.1.0))
       (λ _. refl) (λ _. tag_stands w start (standing s.bits memory) h) refl refl))
 
@@ -238,10 +238,10 @@ module _ {B : Type 0} {A : Arith B} (w : arithmetic.Laws A) (a : Arrived B) (mem
       let bits = standing a.bits memory in
       let due = whole_due A a.bits in
       let right = same tag (tag_of A enc (length memory) (length tag) bits) in
-      let v : ℕ → Verdict = λ b. judged refusal a.engine.left (tag_tests A (length memory) b (length tag)) (whole_due A b) (cond right (granted (whole_due A b)) (wrong (whole_due A b))) in
+      let v : ℕ → Verdict = λ b. decided refusal a.engine.left (tag_conditions A (length memory) b (length tag)) (whole_due A b) (cond right (granted (whole_due A b)) (wrong (whole_due A b))) in
       let P : ℕ → Type 0 = λ b. ChecksOn tag (check A a memory tag) (v b) in
       subst P (sym arrived_long)
-      (judged_both (ChecksOn tag) (λ x. stays a x 0) refusal a.engine.left (tag_tests A (length memory) a.bits (length tag)) due (checked A a memory tag) (cond right (granted due) (wrong due))
+      (decided_both (ChecksOn tag) (λ x. stays a x 0) refusal a.engine.left (tag_conditions A (length memory) a.bits (length tag)) due (checked A a memory tag) (cond right (granted due) (wrong due))
       (λ x. (paid received bits 0 arrived_old, ((refl, refl), shows_arrival a memory 0 refl refl nothing_off refl)))
       (λ _ l. both (ChecksOn tag) right _ _ _ _
       (λ _. (
@@ -273,10 +273,10 @@ module _ {B : Type 0} {A : Arith B} (w : arithmetic.Laws A) (a : Arrived B) (mem
       let start : World (Arrived B) = record { state = a; memory = memory; buffer = [] } in
       let lost = recovered A a.engine.enc a.engine.dec (from_bytes A tag) bits i in
       let new = replaced A memory i lost in
-      let v : ℕ → Verdict = λ b. judged refusal a.engine.left (recover_tests A (length memory) b (length tag) i) (whole_due A b) (granted (whole_due A b)) in
+      let v : ℕ → Verdict = λ b. decided refusal a.engine.left (recover_conditions A (length memory) b (length tag) i) (whole_due A b) (granted (whole_due A b)) in
       let P : ℕ → Type 0 = λ b. RecoversOn tag i (recover A start tag i) (v b) in
       subst P (sym arrived_long)
-      (judged_both (RecoversOn tag i) (sent start) refusal a.engine.left (recover_tests A (length memory) a.bits (length tag) i) due (did due (recover_done A start tag i)) (granted due)
+      (decided_both (RecoversOn tag i) (sent start) refusal a.engine.left (recover_conditions A (length memory) a.bits (length tag) i) due (did due (recover_done A start tag i)) (granted due)
       (λ x. (paid received bits 0 arrived_old, ((refl, refl), shows_arrival a memory 0 refl refl nothing_off refl)))
       (λ t l.
       let whole = present A a.bits i t.1.1.0 in
@@ -455,7 +455,7 @@ module _ {B : Type 0} {A : Arith B} (w : arithmetic.Laws A) (m : Meaning B) (mem
   pub starts : (b : Beginning) → Starts (started A b m memory) (beginning A m.enc (length memory) b m.left (totals accounts) slips (bits_of memory))
   starts opens =
       let P : Start A → (Answer × Reckoning) → Type 0 = λ s p. Starts (after_start memory s) p in
-      judged_both P (λ r. back m r 0) (λ x. (says (refused x) [], record { phase = returned; bits = []; left = m.left; totals = totals accounts; slips = slips ++ (0 ∷ []) })) m.left (open_tests (length memory)) 1 _ _
+      decided_both P (λ r. back m r 0) (λ x. (says (refused x) [], record { phase = returned; bits = []; left = m.left; totals = totals accounts; slips = slips ++ (0 ∷ []) })) m.left (open_conditions (length memory)) 1 _ _
       (λ x. comes_back x)
       (λ _ l. (
         refl,

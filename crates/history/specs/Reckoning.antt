@@ -9,7 +9,7 @@ use Rattle.pmac.specs.Pmac.{full}
 use Rattle.pmac.specs.Prices.{add_due, cut_due, put_due, edit_bound, put_bound}
 use Rattle.pmac.specs.Recovery.{placed}
 use Rattle.overlay.specs.Refusals.{Outcome, carried, refused, numbered}
-use Rattle.overlay.specs.Judging.{judged, misfits, open_tests, add_tests, cut_tests, put_tests, tag_tests, recover_tests, whole_due}
+use Rattle.overlay.specs.Judging.{decided, misfits, open_conditions, add_conditions, cut_conditions, put_conditions, tag_conditions, recover_conditions, whole_due}
 use Rattle.overlay.specs.Receiving.{same}
 
 -- how a history begins
@@ -122,24 +122,24 @@ module _ {B : Type 0} (A : Arith B) (enc : B → B) (size : ℕ) where
   abbrev pub tag_of : ℕ → List Bool → List ℕ
   tag_of n bits = take n (to_bytes A (full A enc bits))
 
-  -- how a call goes, judged on the reckoning's values and the call's arguments alone
+  -- how a call goes, decided on the reckoning's values and the call's arguments alone
   abbrev pub verdict : Reckoning → Call → Verdict
   verdict r (checks tag) =
       let b = length r.bits in let due = whole_due A b in
-      when_received r.phase (judged refusal r.left (tag_tests A size b (length tag)) due (cond (same tag (tag_of (length tag) r.bits)) (granted due) (wrong due)))
+      when_received r.phase (decided refusal r.left (tag_conditions A size b (length tag)) due (cond (same tag (tag_of (length tag) r.bits)) (granted due) (wrong due)))
   verdict r (recovers tag i) =
       let b = length r.bits in let due = whole_due A b in
-      when_received r.phase (judged refusal r.left (recover_tests A size b (length tag) i) due (granted due))
+      when_received r.phase (decided refusal r.left (recover_conditions A size b (length tag) i) due (granted due))
   verdict r (adds edit n) =
       let b = length r.bits in let due = add_due A b n in
-      when_open r.phase (judged refusal r.left (add_tests size b (length edit) n) due (granted due))
+      when_open r.phase (decided refusal r.left (add_conditions size b (length edit) n) due (granted due))
   verdict r (cuts n) =
       let b = length r.bits in let due = cut_due A b n in
-      when_open r.phase (judged refusal r.left (cut_tests size b n) due (granted due))
+      when_open r.phase (decided refusal r.left (cut_conditions size b n) due (granted due))
   verdict r (puts pos edit n) =
       let b = length r.bits in let due = put_due A b pos n in
-      when_open r.phase (judged refusal r.left (put_tests size b pos (length edit) n) due (granted due))
-  verdict r (tags n) = when_open r.phase (judged refusal r.left (tag_tests A size (length r.bits) n) 1 (granted 1))
+      when_open r.phase (decided refusal r.left (put_conditions size b pos (length edit) n) due (granted due))
+  verdict r (tags n) = when_open r.phase (decided refusal r.left (tag_conditions A size (length r.bits) n) 1 (granted 1))
   verdict r (books k i) = untaken
 
   -- what a call that is carried out makes of the bits; a recovery leaves bits that differ in one block alone and have the full tag handed in
@@ -212,7 +212,7 @@ module _ {B : Type 0} (A : Arith B) (enc : B → B) (size : ℕ) where
   -- open and receive, of what is left, and the totals and slips handed in, and at receive the memory's bits
   abbrev pub beginning : Beginning → ℕ → List ℕ → List ℕ → List Bool → Answer × Reckoning
   beginning opens left totals slips memory =
-      judged (λ x. (says (refused x) [], record { phase = returned; bits = []; left = left; totals = totals; slips = slips ++ (0 ∷ []) })) left (open_tests size) 1
+      decided (λ x. (says (refused x) [], record { phase = returned; bits = []; left = left; totals = totals; slips = slips ++ (0 ∷ []) })) left (open_conditions size) 1
       (says carried [], record { phase = opened; bits = []; left = left - 1; totals = totals; slips = slips ++ (1 ∷ []) })
   beginning (receives b) left totals slips memory =
       cond (misfits size b) (says (refused (numbered 2)) [], record { phase = returned; bits = []; left = left; totals = totals; slips = slips ++ (0 ∷ []) })

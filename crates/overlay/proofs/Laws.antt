@@ -20,7 +20,7 @@ use Rattle.pmac.proofs.Sums.{drops}
 use Rattle.pmac.proofs.Over.{over_none}
 use Rattle.pmac.proofs.Edits.{adds_written, puts_written}
 use Rattle.pmac.proofs.Prices.{prices}
-use Rattle.overlay.specs.Judging.{judged, cut_tests, add_tests, put_tests, tag_tests}
+use Rattle.overlay.specs.Judging.{decided, cut_conditions, add_conditions, put_conditions, tag_conditions}
 use Rattle.overlay.specs.Receiving.{did}
 use Rattle.overlay.specs.Calls.{State, World, After, sent, cut, cut_done, add, add_done, put, put_done, tag, tag_done}
 use Rattle.overlay.specs.Laws.{Stands, then, Edits, Adds, Cuts, Puts, Tags}
@@ -45,11 +45,11 @@ unfoldable pub Passes : List (Bool × ℕ) → Type 0
 Passes [] = Unit {0}
 Passes (t ∷ ts) = (t.0 ≡ false) × (Passes ts)
 
-pub judged_by : {R : Type 0} (P : R → Type 0) (refuse : Refusal → R) (left : ℕ) (ts : List (Bool × ℕ)) (due : ℕ) (done : R) → ((r : Refusal) → P (refuse r))
-    → (Passes ts → due ≤ left → P done) → P (judged refuse left ts due done)
+pub decided_by : {R : Type 0} (P : R → Type 0) (refuse : Refusal → R) (left : ℕ) (ts : List (Bool × ℕ)) (due : ℕ) (done : R) → ((r : Refusal) → P (refuse r))
+    → (Passes ts → due ≤ left → P done) → P (decided refuse left ts due done)
 unfolding Passes
-judged_by P refuse left [] due done sends does = cond_both (ltb left due) _ _ P (λ _. sends _) (λ e. does tt (ltb-false _ _ e))
-judged_by P refuse left (t ∷ ts) due done sends does = cond_both t.0 _ _ P (λ _. sends _) (λ e. judged_by P refuse left ts due done sends (λ p l. does (e, p) l))
+decided_by P refuse left [] due done sends does = cond_both (ltb left due) _ _ P (λ _. sends _) (λ e. does tt (ltb-false _ _ e))
+decided_by P refuse left (t ∷ ts) due done sends does = cond_both t.0 _ _ P (λ _. sends _) (λ e. decided_by P refuse left ts due done sends (λ p l. does (e, p) l))
 
 module _ {B : Type 0} {A : Arith B} (w : arithmetic.Laws A) where
   -- one call: what it makes of the bits where it is carried out, and its price
@@ -57,10 +57,10 @@ module _ {B : Type 0} {A : Arith B} (w : arithmetic.Laws A) where
       → done.state.engine.left ≡ v.state.engine.left - due
       → ((bits : List Bool) → Passes ts → Stands A v.state v.memory bits → Stands A done.state done.memory (f bits))
       → (Passes ts → due ≤ bound)
-      → (a : After (State B)) → a ≡ judged (sent v) v.state.engine.left ts due (did due done) → Edits A f bound v a
+      → (a : After (State B)) → a ≡ decided (sent v) v.state.engine.left ts due (did due done) → Edits A f bound v a
   edits f bound v ts due done falls stands fair a is =
       let P : After (State B) → Type 0 = Edits A f bound v in
-      subst P (sym is) (judged_by P (sent v) v.state.engine.left ts due (did due done)
+      subst P (sym is) (decided_by P (sent v) v.state.engine.left ts due (did due done)
       (λ _. record { stands = λ _ h. h; pays = omega arith; bounded = omega arith })
       (λ p l. record { stands = λ bits h. stands bits p h; pays = omega arith; bounded = fair p }))
 
@@ -83,7 +83,7 @@ module _ {B : Type 0} {A : Arith B} (w : arithmetic.Laws A) where
   unfolding Passes
   cut_law v d =
       let s = v.state in
-      edits (λ bits. take (length bits - d) bits) (ceil A d) v (cut_tests (length v.memory) s.bits d) (cut_due A s.bits d) (cut_done A v d) refl
+      edits (λ bits. take (length bits - d) bits) (ceil A d) v (cut_conditions (length v.memory) s.bits d) (cut_due A s.bits d) (cut_done A v d) refl
       (λ bits _ h. cut_stands v d bits h) (λ t. cut_fair s.bits d (ltb-false _ _ t.1.0))
 
   pub add_stands : (v : World (State B)) (edit : List ℕ) (n : ℕ) (bits : List Bool) → n ≤ 8 * length edit → v.state.bits + n ≤ 8 * length v.memory → Stands A v.state v.memory bits
@@ -105,7 +105,7 @@ module _ {B : Type 0} {A : Arith B} (w : arithmetic.Laws A) where
   unfolding Passes
   add_law v edit n =
       let s = v.state in
-      edits (λ bits. bits ++ take n (bits_of edit)) (ceil A n) v (add_tests (length v.memory) s.bits (length edit) n) (add_due A s.bits n) (add_done A v edit n) refl
+      edits (λ bits. bits ++ take n (bits_of edit)) (ceil A n) v (add_conditions (length v.memory) s.bits (length edit) n) (add_due A s.bits n) (add_done A v edit n) refl
       (λ bits t h. add_stands v edit n bits (ltb-false _ _ t.1.0) (ltb-false _ _ t.1.1.0) h) (λ _. (prices w).add s.bits n)
 
   -- how many blocks are touched: none by an edit of no bits
@@ -176,7 +176,7 @@ module _ {B : Type 0} {A : Arith B} (w : arithmetic.Laws A) where
   unfolding Passes
   put_law v pos edit n =
       let s = v.state in
-      edits (λ bits. paste bits pos (bits_of edit) n) (put_bound A n) v (put_tests (length v.memory) s.bits pos (length edit) n) (put_due A s.bits pos n) (put_done A v pos edit n) refl
+      edits (λ bits. paste bits pos (bits_of edit) n) (put_bound A n) v (put_conditions (length v.memory) s.bits pos (length edit) n) (put_due A s.bits pos n) (put_done A v pos edit n) refl
       (λ bits t h. put_stands v pos edit n bits (ltb-false _ _ t.1.0) (ltb-false _ _ t.1.1.0) h) (λ _. put_fair s.bits pos n)
 
   pub tag_stands : (v : World (State B)) (bits : List Bool) → Stands A v.state v.memory bits → Stands A (tag_done A v).state v.memory bits
@@ -189,12 +189,12 @@ module _ {B : Type 0} {A : Arith B} (w : arithmetic.Laws A) where
   pub tag_law : (v : World (State B)) (a : After (State B)) → a ≡ tag A v → Tags A v a
   tag_law v a e =
       let s = v.state in
-      let ts = tag_tests A (length v.memory) s.bits (length v.buffer) in
+      let ts = tag_conditions A (length v.memory) s.bits (length v.buffer) in
       record {
         edits = edits (λ bits. bits) 1 v ts 1 (tag_done A v) refl (λ bits _ h. tag_stands v bits h) (λ _. omega arith) a e;
         tag_is = λ bits h.
             let P : After (State B) → Type 0 = λ a. a.world.buffer ≡ then a.outcome (take (length v.buffer) (to_bytes A (full A s.engine.enc bits))) v.buffer in
-            subst P (sym e) (judged_by P (sent v) s.engine.left ts 1 (did 1 (tag_done A v)) (λ _. refl) (λ _ _. tagged v bits h));
+            subst P (sym e) (decided_by P (sent v) s.engine.left ts 1 (did 1 (tag_done A v)) (λ _. refl) (λ _ _. tagged v bits h));
       }
 
   pub sum_none : (enc : B → B) (l : B) → sum A enc l [] ≡ A.zero

@@ -8,7 +8,7 @@ use Rattle.pmac.specs.Pmac.{sum, full}
 use Rattle.pmac.specs.Recovery.{recovered}
 use Rattle.overlay.specs.Refusals.{carried, numbered}
 use Rattle.overlay.specs.Calls.{State, World, After, sent}
-use Rattle.overlay.specs.Judging.{judged, misfits, tag_tests, recover_tests, whole_due}
+use Rattle.overlay.specs.Judging.{decided, misfits, tag_conditions, recover_conditions, whole_due}
 
 -- what a received overlay keeps
 pub record Arrived (B : Type 0) : Type 0 where
@@ -51,7 +51,7 @@ module _ {B : Type 0} (A : Arith B) where
       (stays (record { bits = h.bits; engine = spent due h.engine }) (numbered 9) due)
 
   abbrev pub check : Arrived B → List ℕ → List ℕ → Checked B
-  check h memory tag = judged (λ r. stays h r 0) h.engine.left (tag_tests A (length memory) h.bits (length tag)) (whole_due A h.bits) (checked h memory tag)
+  check h memory tag = decided (λ r. stays h r 0) h.engine.left (tag_conditions A (length memory) h.bits (length tag)) (whole_due A h.bits) (checked h memory tag)
 
   -- recover writes the block that gives the full tag handed in
   abbrev pub recover_done : World (Arrived B) → List ℕ → ℕ → World (Arrived B)
@@ -66,4 +66,4 @@ module _ {B : Type 0} (A : Arith B) where
   abbrev pub recover : World (Arrived B) → List ℕ → ℕ → After (Arrived B)
   recover w tag i =
       let h = w.state in let due = whole_due A h.bits in
-      judged (sent w) h.engine.left (recover_tests A (length w.memory) h.bits (length tag) i) due (did due (recover_done w tag i))
+      decided (sent w) h.engine.left (recover_conditions A (length w.memory) h.bits (length tag) i) due (did due (recover_done w tag i))
