@@ -81,7 +81,8 @@ pub(crate) fn hold(slot: u16, bits: u32) -> Result<(), BookFault>
 
 // The data of a slot: the whole bytes that so many bits need.
 fn data_of(book: &[u8], slot: u16, bits: u32) -> &[u8]
-    requires { (slot < slots book.now) × (bits ≤ 160) }
+    requires inside { slot < slots book.now }
+    requires short { bits ≤ 160 }
     ensures { result.now ≡ data_of book.now slot bits }
 {
     let start = slot as usize * SLOT_BYTES + DATA;
