@@ -119,10 +119,6 @@ follow_stray book links slot next e h =
     follow_cases (λ n. follow book n slot ≡ Err (at 11 slot)) (ended_stray book slot (Err (at 12 slot)) f.1 beyond)
     (λ k. ended_stray book slot (linked (link book slot) (follow book k (link book slot))) f.1 beyond) links
 
-pub follow_ring : (book : List ℕ) (slot next : ℕ) → follower book slot ≡ Some next → next < slots book → follow book 0 slot ≡ Err (at 12 slot)
-follow_ring book slot next e h =
-    let f = follower_some book slot next e in ended_more book slot (Err (at 12 slot)) f.1 (omega (arith, f.0))
-
 verdict_linked : (slot : ℕ) (more : Result (List ℕ) Refusal) → verdict (linked slot more) ≡ verdict more
 verdict_linked slot (Ok chain) = refl
 verdict_linked slot (Err refusal) = refl

@@ -10,7 +10,8 @@ use crate::{BookFault, Records, SLOT_BYTES};
 
 // Follows the links from slot 0 on: refused where one leads to no slot, and then where the chain does not end in time.
 fn follow(book: &[u8], slots: u16) -> Result<(), BookFault>
-    requires { (slots ≡ slots_of book.now) × (0 < slots) }
+    requires counted { slots ≡ slots_of book.now }
+    requires some { 0 < slots }
     ensures { outcome result ≡ verdict (onwards book.now 0) }
 {
     let mut slot = 0;
@@ -30,7 +31,8 @@ fn follow(book: &[u8], slots: u16) -> Result<(), BookFault>
 
 // Looks at each record of a chain that was followed.
 fn look_through(book: &[u8]) -> Result<(), BookFault>
-    requires { (0 < slots_of book.now) × (is_ok (onwards book.now 0) ≡ true) }
+    requires some { 0 < slots_of book.now }
+    requires followed { is_ok (onwards book.now 0) ≡ true }
     ensures { outcome result ≡ verdict (behind book.now 0) }
 {
     let mut slot = 0;
@@ -43,7 +45,8 @@ fn look_through(book: &[u8]) -> Result<(), BookFault>
 
 // The chain of links; a book of one slot is looked at first.
 fn look_at_links(book: &[u8], slots: u16) -> Result<(), BookFault>
-    requires { (slots ≡ slots_of book.now) × (0 < slots) }
+    requires counted { slots ≡ slots_of book.now }
+    requires some { 0 < slots }
     ensures { outcome result ≡ verdict (chain book.now) }
 {
     if slots > 1 {

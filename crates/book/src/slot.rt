@@ -1,6 +1,6 @@
 // The fields of a slot, high byte first.
 ghost use Rattle.std.specs.Prelude.{◌≡◌, ◌+◌, ◌<◌, ◌≤◌, length};
-ghost use Rattle.book.specs.Slots.{half as halfAt, word as word_at, slots, data_of};
+ghost use Rattle.book.specs.Slots.{half as half_at, word as word_at, slots, data_of};
 ghost use Rattle.book.specs.Reading.{entry_at};
 ghost use Rattle.book.specs.Views.{looked};
 ghost use Rattle.book.specs.Tests.{sized, follower, holds};
@@ -34,7 +34,7 @@ pub(crate) const TAG: u8 = 4;
 // Two bytes from `i` on.
 fn half(book: &[u8], i: usize) -> u16
     requires { i + 2 ≤ length book.now }
-    ensures { result ≡ halfAt book.now i }
+    ensures { result ≡ half_at book.now i }
 {
     u16::from_be_bytes([book[i], book[i + 1]])
 }
@@ -81,7 +81,8 @@ pub(crate) fn hold(slot: u16, bits: u32) -> Result<(), BookFault>
 
 // The data of a slot: the whole bytes that so many bits need.
 fn data_of(book: &[u8], slot: u16, bits: u32) -> &[u8]
-    requires { (slot < slots book.now) × (bits ≤ 160) }
+    requires inside { slot < slots book.now }
+    requires short { bits ≤ 160 }
     ensures { result.now ≡ data_of book.now slot bits }
 {
     let start = slot as usize * SLOT_BYTES + DATA;

@@ -11,7 +11,8 @@ use crate::{BookFault, Edit, SLOT_BYTES, Writer};
 
 // The bytes of a record's slot, not linked yet.
 fn slot_bytes(edit: Edit<'_>) -> [u8; SLOT_BYTES]
-    requires { (lacking (plain edit) ≡ false) × (overlong (plain edit) ≡ false) }
+    requires offered { lacking (plain edit) ≡ false }
+    requires short { overlong (plain edit) ≡ false }
     ensures bytes { result ≡ slot_bytes (plain edit.entry) }
     ensures words { Words (plain edit.entry) }
 {
@@ -42,6 +43,7 @@ fn write_slot(book: &mut [u8], last: u16, edit: Edit<'_>)
 
 impl Writer {
     // Clears a book: no slot is taken.
+    #[tactic(auto, using(crate::proofs::Laws::clear_law))]
     pub fn new(book: &mut [u8]) -> Result<Self, BookFault>
         ensures after { begun result book.new ≡ clearing book.old }
         ensures law { Empties (begun result book.new) }

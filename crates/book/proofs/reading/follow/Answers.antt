@@ -20,5 +20,5 @@ loop-next-preserved c =
 
 pub returns : goal.returns
 returns c =
-    sym (ap verdict (follow_none c.args.book.now c.loop-next.links c.loop-next.slot (follower_none c.args.book.now c.loop-next.slot (sym c.in-default.ensures))))
+    sym (ap verdict (follow_none c.args.book.now c.loop-next.links c.loop-next.slot (follower_none c.args.book.now c.loop-next.slot (sym c.in_default.ensures))))
     ∙ c.loop-next.invariant.0

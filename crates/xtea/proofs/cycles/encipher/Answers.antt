@@ -12,5 +12,5 @@ loop-i-preserved c = up _ _ _ _ _ _ _ _ c.loop-i.invariant.0 c.loop-i.invariant.
 
 pub returns : goal.returns
 returns c =
-    let e : c.loop-i.-i ≡ c.args.cycles = omega arith in
+    let e : c.loop-i._i ≡ c.args.cycles = omega arith in
     c.loop-i.invariant.1 ∙ ap (λ n. enciphered c.args.key.now n c.args.block) e

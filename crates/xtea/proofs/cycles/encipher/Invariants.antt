@@ -3,4 +3,4 @@ use Rattle.xtea.specs.Cycles.{sum, enciphered}
 use Rattle.xtea.proofs.cycles.encipher.Given as goal
 
 abbrev pub invariant-loop-i : goal.invariant-loop-i
-invariant-loop-i l = (l.s ≡ sum l.-i) × ((l.v, l.w) ≡ enciphered l.key l.-i (l.initial.v, l.initial.w))
+invariant-loop-i l = (l.s ≡ sum l._i) × ((l.v, l.w) ≡ enciphered l.key l._i (l.initial.v, l.initial.w))
