@@ -124,10 +124,10 @@ pub unmix_word : (w s r : ℕ) → r < 2 ^ 32 → s ≡ plain_word s_box w w w w
 unfolding unmixing0 unmixing1 unmixed_word
 unmix_word w s r h es er =
     let back : each inv_s_box (unpacked s) ≡ unpacked w = ap (each inv_s_box) (sub_word_lem w s es) ∙ each_undone inv_s_box s_box boxes_undo.inv_sub (unpacked w) (unpacked_bytes w) in
-    let column-is : unpacked r ≡ inv_mix_column (unpacked w) =
+    let column_is : unpacked r ≡ inv_mix_column (unpacked w) =
     ap unpacked er ∙ mixed_column 14 11 13 9 inv_s_box unmixing0 unmixing1 inv_sub_lt (λ x. refl) (λ x. refl) s s s s 0
     ∙ plus_none (inv_mix_column (each inv_s_box (unpacked s))) ∙ ap inv_mix_column back in
-    sym (packed_unpacked r h) ∙ ap packed column-is
+    sym (packed_unpacked r h) ∙ ap packed column_is
 
 -- all of them
 abbrev keys_as : State → List State → State → Keys

@@ -46,7 +46,7 @@ module _ (old new : List ℕ) (last : ℕ) (g : Linked old new last) where
       let on : follow old links (slot + 1) ≡ Ok (row (slot + 1 + 1) n) = ap (follow old links) (sym was) ∙ t.1 ∙ ap Ok rest in
       let more = row_grows n links (slot + 1) on (omega arith) (omega arith) in
       let same = g.same_slots in
-      let in-old = l.inside in
+      let in_old = l.inside in
       ended_more new slot (linked (link new slot) (follow new links (link new slot))) (λ z. omega arith) (omega arith)
       ∙ ap (λ k. linked k (follow new links k)) next
       ∙ ap (linked (slot + 1)) more)

@@ -70,7 +70,7 @@ entries_within book n (s ∷ chain) (e ∷ es) h w =
     let p = entered_first (entry_at book s) (entries book chain) e es h in
     let rest = entries_within book n chain es p.1 w.1 in
     let here : e.slot ≡ s = entry_slot book s e p.0 in
-    let in-book = w.0 in
+    let in_book = w.0 in
     ((omega arith, rest.0), let l = rest.1 in omega arith)
 
 -- a book has fewer than 2,048 records, each in a slot of its own

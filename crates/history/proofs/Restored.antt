@@ -38,9 +38,9 @@ module _ {B : Type 0} {A : Arith B} (w : arithmetic.Laws A) (m : Meaning B) (und
       let there = A.pack (part A i bits) in
       let rec = recoveries w m undo (full A m.enc bits) bits i p h in
       let tag_is : from_bytes A tag ≡ full A m.enc bits = ap (from_bytes A) et ∙ (bytes_read_back w).block (full A m.enc bits) in
-      let lost-is : lost ≡ there = ap₂ (λ x y. recovered A m.enc m.dec x y i) tag_is es ∙ rec.back v in
+      let lost_is : lost ≡ there = ap₂ (λ x y. recovered A m.enc m.dec x y i) tag_is es ∙ rec.back v in
       let new = replaced A memory i lost in
-      let new_is : new ≡ replaced A memory i there = ap (replaced A memory i) lost-is in
+      let new_is : new ≡ replaced A memory i there = ap (replaced A memory i) lost_is in
       let fit : misfits (length memory) b ≡ false = ap₂ (λ x y. cond x true y) (le-ltb 65536 (length memory) small) (le-ltb (8 * length memory) b fits) in
       let long : length tag ≡ A.size = ap length et ∙ length_bytes_of A.size (A.unpack (full A m.enc bits)) in
       let whole : missing A b i ≡ false = ap₂ (λ x y. cond x true y) (ne_eqb i 0 (λ z. omega arith)) (le-ltb b (i * width A) (omega arith)) in
@@ -50,7 +50,7 @@ module _ {B : Type 0} {A : Arith B} (w : arithmetic.Laws A) (m : Meaning B) (und
       let is : t ≡ after arrival (did (whole_due A b) (recover_done A start tag i)) =
       e ∙ ap (λ z. then_recover A memory tag i (cond z (declined m (record { number = 2; told = [] }) 0) (took a 0))) fit ∙ ap (after arrival) does in
       let stands : standing b new ≡ bits =
-      places w memory lost b i p (omega arith) fits ∙ ap₂ (placed A i) lost-is es ∙ placed_twice w i bits p h there v ∙ placed_same w i bits p h in
+      places w memory lost b i p (omega arith) fits ∙ ap₂ (placed A i) lost_is es ∙ placed_twice w i bits p h there v ∙ placed_same w i bits p h in
       record {
         carried_out = ap (λ z. z.answer) is;
         bits_back = ap (λ z. standing z t.memory) (sym eb) ∙ ap (λ z. standing b z.memory) is ∙ stands;

@@ -335,15 +335,15 @@ module _ {B : Type 0} (A : Arith B) (enc : B → B) (size : ℕ) where
         let of : Booked → Entered = λ b. record { answer = says b.outcome []; accounts = b.accounts; slips = set d.slips k b.slip } in
         let Q : Booked → (Answer × Reckoning) → Type 0 = λ b p. BooksOn (of b) p in
         let old = get_or (totals d.accounts) i 0 in
-        let same-slips : set d.slips k n ≡ d.slips = set-get_or d.slips k 0 in
+        let same_slips : set d.slips k n ≡ d.slips = set-get_or d.slips k 0 in
         let unchanged : (x : Refusal) → Q (record { outcome = refused x; accounts = d.accounts; slip = n }) (says (refused x) [], plain) =
-        λ x. (refl, subst (λ z. StandsFor A enc size (record { overlay = d.overlay; memory = d.memory; accounts = d.accounts; slips = z }) plain) (sym same-slips) (stands_plain d.accounts (totals d.accounts) d.slips refl st.sixteen)) in
+        λ x. (refl, subst (λ z. StandsFor A enc size (record { overlay = d.overlay; memory = d.memory; accounts = d.accounts; slips = z }) plain) (sym same_slips) (stands_plain d.accounts (totals d.accounts) d.slips refl st.sixteen)) in
         let new : Account = record { total = (at d.accounts i).total + n; latest = n } in
-        let total-is : (at d.accounts i).total ≡ old = sym (totals_at d.accounts i) in
+        let total_is : (at d.accounts i).total ≡ old = sym (totals_at d.accounts i) in
         both BooksOn (ltb k (length d.slips)) _ _ _ _
         (λ _. both Q (ltb 15 i) _ _ _ _ (λ _. unchanged (numbered 16))
         (λ _. subst (λ z. Q (cond (ltb (4294967295 - (at d.accounts i).total) n) (record { outcome = refused (numbered 17); accounts = d.accounts; slip = n }) (record { outcome = carried; accounts = set d.accounts i new; slip = 0 }))
-        (cond (ltb (4294967295 - z) n) (says (refused (numbered 17)) [], plain) (says carried [], record { phase = r.phase; bits = r.bits; left = r.left; totals = set (totals d.accounts) i (z + n); slips = set d.slips k 0 }))) total-is
+        (cond (ltb (4294967295 - z) n) (says (refused (numbered 17)) [], plain) (says carried [], record { phase = r.phase; bits = r.bits; left = r.left; totals = set (totals d.accounts) i (z + n); slips = set d.slips k 0 }))) total_is
         (both Q (ltb (4294967295 - (at d.accounts i).total) n) _ _ _ _ (λ _. unchanged (numbered 17))
         (λ _. (refl, stands_plain (set d.accounts i new) (set (totals d.accounts) i ((at d.accounts i).total + n)) (set d.slips k 0) (totals_set d.accounts i new) (length-set d.accounts i new ∙ st.sixteen))))))
         (λ _. (refl, stands_plain d.accounts (totals d.accounts) d.slips refl st.sixteen))

@@ -156,12 +156,12 @@ module _ {B : Type 0} {A : Arith B} (w : arithmetic.Laws A) where
           let fits = h.fits in
           let zero : n ≡ 0 = omega arith in
           let k = untouched s.bits pos n zero in
-          let paste-is : (xs : List Bool) → paste xs pos (bits_of edit) n ≡ xs = λ xs. ap (paste xs pos (bits_of edit)) zero ∙ sym (paste_none xs pos (bits_of edit)) in
-          let same : standing s.bits new ≡ standing s.bits memory = ap (take s.bits) (wrote memory edit pos n (omega arith) some ∙ paste-is (bits_of memory)) in
+          let paste_is : (xs : List Bool) → paste xs pos (bits_of edit) n ≡ xs = λ xs. ap (paste xs pos (bits_of edit)) zero ∙ sym (paste_none xs pos (bits_of edit)) in
+          let same : standing s.bits new ≡ standing s.bits memory = ap (take s.bits) (wrote memory edit pos n (omega arith) some ∙ paste_is (bits_of memory)) in
           let out : over A (f memory) (touched_from A pos) (touched A s.bits pos n) ≡ A.zero = ap (over A (f memory) (touched_from A pos)) k ∙ over_none A (f memory) (touched_from A pos) in
-          let in-again : over A (f new) (touched_from A pos) (touched A s.bits pos n) ≡ A.zero = ap (over A (f new) (touched_from A pos)) k ∙ over_none A (f new) (touched_from A pos) in (
-            same ∙ h.first ∙ sym (paste-is bits),
-            ap₂ (λ x y. A.plus (A.plus s.sum x) y) out in-again ∙ zero_r w (A.plus s.sum A.zero) ∙ zero_r w s.sum ∙ h.sum_is ∙ ap (sum A s.engine.enc s.l) (sym (paste-is bits)),
+          let in_again : over A (f new) (touched_from A pos) (touched A s.bits pos n) ≡ A.zero = ap (over A (f new) (touched_from A pos)) k ∙ over_none A (f new) (touched_from A pos) in (
+            same ∙ h.first ∙ sym (paste_is bits),
+            ap₂ (λ x y. A.plus (A.plus s.sum x) y) out in_again ∙ zero_r w (A.plus s.sum A.zero) ∙ zero_r w s.sum ∙ h.sum_is ∙ ap (sum A s.engine.enc s.l) (sym (paste_is bits)),
           )
 
   pub put_stands : (v : World (State B)) (pos : ℕ) (edit : List ℕ) (n : ℕ) (bits : List Bool) → n ≤ 8 * length edit → pos + n ≤ v.state.bits → Stands A v.state v.memory bits

@@ -49,16 +49,16 @@ module _ {B : Type 0} {A : Arith B} (w : Laws A) where
       let up = (pos + a + (n - 1)) / n in
       let front : take pos (bits_of new) ≡ take pos (bits_of old) = ap (take pos) wrote ∙ front_paste (bits_of old) edit pos a (omega arith) in
       let back : drop (pos + a) (bits_of new) ≡ drop (pos + a) (bits_of old) = ap (drop (pos + a)) wrote ∙ drop-paste (bits_of old) pos edit a (omega arith) fits in
-      let in-old : (i : ℕ) → 1 ≤ i → i < m → i * A.size ≤ length old = λ i p q. held_inside w old b i h p q in
+      let in_old : (i : ℕ) → 1 ≤ i → i < m → i * A.size ≤ length old = λ i p q. held_inside w old b i h p q in
       let top = block_below w pos b (omega arith) in
       record {
         stand = ap (take b) wrote ∙ take_of_paste (bits_of old) edit pos a b inside (omega arith) fits;
         kept = puts w enc l old new b c (min m (up + 1)) h (omega arith) (omega arith) (omega (arith, block_ceil w pos a)) (omega arith)
-            (λ i p q. let size = in-old i p (omega arith) in
+            (λ i p q. let size = in_old i p (omega arith) in
             let le : i ≤ pos / n = omega arith in
             sym (part_held A new i p (omega arith)) ∙ ap A.pack (part_front A i pos (bits_of new) (bits_of old) p (omega (arith, mul-le-mul_right n le, block_of w pos)) front) ∙ part_held A old i p size)
             (λ i p q. let one : 1 ≤ i = omega (arith, blocks_some w b) in
-            let size = in-old i one q in
+            let size = in_old i one q in
             let le : up ≤ i - 1 = omega arith in
             sym (part_held A new i one (omega arith)) ∙ ap A.pack (part_back A i (pos + a) (bits_of new) (bits_of old) (omega (arith, mul-le-mul_right n le, ceil_all w (pos + a))) back) ∙ part_held A old i one size);
       }

@@ -29,8 +29,8 @@ module _ {B : Type 0} {A : Arith B} (w : Laws A) (enc : B → B) (memory : List 
       let back : i + 1 - 1 ≡ i = omega arith in
       let up : suc (i - a) ≡ i + 1 - a = omega arith in
       let here : a + (i - a) ≡ i = omega arith in
-      let y-is : y ≡ enc (A.plus (held A memory i) (offset A l i)) = ey ∙ ap (λ z. enc (A.plus (held A memory i) z)) (ea ∙ ap (offset A l) back) in
-      n ∙ ap₂ A.plus e (y-is ∙ ap (stored A enc l memory) (sym here))
+      let y_is : y ≡ enc (A.plus (held A memory i) (offset A l i)) = ey ∙ ap (λ z. enc (A.plus (held A memory i) z)) (ea ∙ ap (offset A l) back) in
+      n ∙ ap₂ A.plus e (y_is ∙ ap (stored A enc l memory) (sym here))
       ∙ sym (over_more A (stored A enc l memory) a (i - a)) ∙ ap (over A (stored A enc l memory) a) up
 
 -- L, the sum and the full tag, from their parts

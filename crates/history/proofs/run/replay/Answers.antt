@@ -16,9 +16,9 @@ returns g c =
     let d = desk_of means c.note-stage.result memory accounts (vec_items c.note-stage.new.slips) in
     let xs = c.resume.ensures.told.0 in
     let x = telling_of means s in
-    let kept-slips : shown (vec_items c.note-stage.new.slips) ≡ slips ++ slip_of s.slip = c.note-stage.ensures.slips ∙ ap (λ z. shown z ++ slip_of s.slip) c.reserve.ensures.items in
+    let kept_slips : shown (vec_items c.note-stage.new.slips) ≡ slips ++ slip_of s.slip = c.note-stage.ensures.slips ∙ ap (λ z. shown z ++ slip_of s.slip) c.reserve.ensures.items in
     let ed : d ≡ record { overlay = kept means s.stage; memory = memory; accounts = accounts; slips = slips ++ slip_of s.slip } =
-    ap₂ (λ y z. record { overlay = kept means y; memory = memory; accounts = accounts; slips = z }) c.note-stage.ensures.stage kept-slips in
+    ap₂ (λ y z. record { overlay = kept means y; memory = memory; accounts = accounts; slips = z }) c.note-stage.ensures.stage kept_slips in
     let at : Turn g.row.E-Block.Denot → Desk g.row.E-Block.Denot = λ t. record { overlay = t.overlay; memory = t.memory; accounts = accounts; slips = slips ++ t.slip } in
     record {
       history = (

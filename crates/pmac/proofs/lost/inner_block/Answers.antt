@@ -39,15 +39,15 @@ returns g c =
     let first = c.seal_blocks.ensures.after in
     let all : k - 2 ≡ i - 1 + (c.block_count-count.result - (i + 1)) = omega arith in
     let second = spent_on m (g.E.Engine.means c.seal_blocks.new.engine) (g.E.Engine.means c.seal_blocks-2.new.engine) (i - 1) (c.block_count-count.result - (i + 1)) (k - 2) first c.seal_blocks-2.ensures.after all in
-    let before-is : c.in_ok-before.before ≡ over A (stored A m.enc l memory) 1 (i - 1) =
+    let before_is : c.in_ok-before.before ≡ over A (stored A m.enc l memory) 1 (i - 1) =
     ok_same c.in_ok-before.before _ c.seal_blocks.result c.in_ok-before.was c.seal_blocks.ensures.answer in
     let behind_is : c.in_ok-behind.behind ≡ over A (stored A m.enc l memory) (i + 1) (k - (i + 1)) =
     ok_same c.in_ok-behind.behind _ c.seal_blocks-2.result c.in_ok-behind.was c.seal_blocks-2.ensures.answer
     ∙ ap₂ (λ f n. over A (stored A f l memory) (i + 1) (n - (i + 1))) (ap (λ z. z.enc) first) count in
-    let masked-is = asked_ok (λ z. z.dec) (λ _ _. refl) m (g.E.Engine.means c.seal_blocks-2.new.engine) (k - 2) c.xor-y.result c.decipher.result second (omega arith) c.decipher.ensures.answer c.in_ok-masked.masked c.in_ok-masked.was in
+    let masked_is = asked_ok (λ z. z.dec) (λ _ _. refl) m (g.E.Engine.means c.seal_blocks-2.new.engine) (k - 2) c.xor-y.result c.decipher.result second (omega arith) c.decipher.ensures.answer c.in_ok-masked.masked c.in_ok-masked.was in
     record {
       answer = ap Ok (c.xor-3.ensures ∙ inner_found w m.enc memory c.args.bits (omega arith) m.dec l c.args.opened i (omega arith) (omega arith)
           c.ending-ending.result c.in_ok-before.before c.in_ok-behind.behind c.xor-y.result c.in_ok-masked.masked c.offset.result
-          c.ending-ending.ensures before-is behind_is (c.xor-y.ensures ∙ ap₂ A.plus c.xor.ensures c.xor-2.ensures) masked-is c.offset.ensures);
+          c.ending-ending.ensures before_is behind_is (c.xor-y.ensures ∙ ap₂ A.plus c.xor.ensures c.xor-2.ensures) masked_is c.offset.ensures);
       after = spent_on m (g.E.Engine.means c.seal_blocks-2.new.engine) (g.E.Engine.means c.decipher.new.self) (k - 2) 1 (k - 1) second c.decipher.ensures.after (omega arith);
     }
