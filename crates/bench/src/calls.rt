@@ -33,8 +33,8 @@ fn carried(answer: Answer) -> bool
 
 // Adds a message in pieces of `piece` bytes; answers whether every call was carried out.
 fn add_all<E: Engine>(opened: &mut Open<E>, memory: &mut [u8], message: &[u8], piece: usize) -> bool
-    requires { Keeps Block-as-Block.arith (state E.Engine.means opened.old) memory.old }
-    ensures kept { Keeps Block-as-Block.arith (state E.Engine.means opened.new) memory.new }
+    requires { Keeps E.Block.Block.arith (state E.Engine.means opened.old) memory.old }
+    ensures kept { Keeps E.Block.Block.arith (state E.Engine.means opened.new) memory.new }
     ensures same { (E.Engine.means opened.new.engine).enc ≡ (E.Engine.means opened.old.engine).enc }
 {
     if message.len() > bits::MEMORY_BYTES {
@@ -61,8 +61,8 @@ fn put_round<E: Engine>(
     edits: u32,
     tag: &mut [u8],
 ) -> bool
-    requires { Keeps Block-as-Block.arith (state E.Engine.means opened.old) memory.old }
-    ensures kept { Keeps Block-as-Block.arith (state E.Engine.means opened.new) memory.new }
+    requires { Keeps E.Block.Block.arith (state E.Engine.means opened.old) memory.old }
+    ensures kept { Keeps E.Block.Block.arith (state E.Engine.means opened.new) memory.new }
     ensures same { (E.Engine.means opened.new.engine).enc ≡ (E.Engine.means opened.old.engine).enc }
 {
     for i in 0..edits {
@@ -87,7 +87,7 @@ pub(crate) fn tag_by_calls<E: Engine + Drop>(
     edits: u32,
     tag: &mut [u8],
 ) -> bool
-    ensures { result ≡ true → tag.new ≡ take (length tag.old) (to_bytes Block-as-Block.arith (full Block-as-Block.arith (E.Engine.means engine).enc (standing (8 * length message.now) memory.new))) }
+    ensures { result ≡ true → tag.new ≡ take (length tag.old) (to_bytes E.Block.Block.arith (full E.Block.Block.arith (E.Engine.means engine).enc (standing (8 * length message.now) memory.new))) }
 {
     let Opened { outcome, slip } = Open::new(engine, memory);
     let _ = settle(slip);

@@ -74,8 +74,8 @@ fn seal_line<E: Engine + Drop>(
     engine: E,
     message: &[u8],
 ) -> Result<SealLine, AllocError>
-    requires { taggable Block-as-Block.arith Block-as-Block.arith.size ≡ true }
-    ensures { IfOk result (λ line. line_bytes line ≡ seal_of Block-as-Block.arith (E.Engine.means engine) message.now) }
+    requires { taggable E.Block.Block.arith E.Block.Block.arith.size ≡ true }
+    ensures { IfOk result (λ line. line_bytes line ≡ seal_of E.Block.Block.arith (E.Engine.means engine) message.now) }
 {
     if message.len() > bits::MEMORY_BYTES {
         return Ok(SealLine::Refusal {
@@ -172,8 +172,8 @@ fn sealed<E: Engine + Drop>(
     message: &[u8],
     tag: &mut [u8],
 ) -> Result<u32, OverlayFault>
-    requires { Handed Block-as-Block.arith memory.old message.now tag.old }
-    ensures { came result tag.new ≡ sealing Block-as-Block.arith (E.Engine.means engine) message.now (blocksOf Block-as-Block.arith (8 * length message.now) + 1) }
+    requires { Handed E.Block.Block.arith memory.old message.now tag.old }
+    ensures { came result tag.new ≡ sealing E.Block.Block.arith (E.Engine.means engine) message.now (blocksOf E.Block.Block.arith (8 * length message.now) + 1) }
 {
     let mut ledger = Ledger::new(0);
     let Opened { outcome, slip } = Open::new(engine, memory);
@@ -195,10 +195,10 @@ fn add_and_tag<E: Engine>(
     message: &[u8],
     tag: &mut [u8],
 ) -> Result<u32, OverlayFault>
-    requires empty { Stands Block-as-Block.arith (state E.Engine.means opened.old) memory.old [] }
-    requires handed { Handed Block-as-Block.arith memory.old message.now tag.old }
+    requires empty { Stands E.Block.Block.arith (state E.Engine.means opened.old) memory.old [] }
+    requires handed { Handed E.Block.Block.arith memory.old message.now tag.old }
     requires free { ((at ledger.old.accounts 1).total ≡ 0) × ((at ledger.old.accounts 2).total ≡ 0) }
-    ensures { came result tag.new ≡ sealing Block-as-Block.arith (E.Engine.means opened.old.engine) message.now (blocksOf Block-as-Block.arith (8 * length message.now)) }
+    ensures { came result tag.new ≡ sealing E.Block.Block.arith (E.Engine.means opened.old.engine) message.now (blocksOf E.Block.Block.arith (8 * length message.now)) }
 {
     let Answer { outcome, slip } = opened.add(memory, message, 8 * message.len() as u32);
     let adding = settle(ledger, 1, slip);

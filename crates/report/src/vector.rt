@@ -78,7 +78,7 @@ fn answer<E: Engine>(
     bits: usize,
     message: &[u8],
 ) -> Result<Option<String>, AllocError>
-    ensures { IfOk result (λ o. text_of o ≡ answer_of Block-as-Block.arith kind (E.Engine.means engine.old) bits message.now) }
+    ensures { IfOk result (λ o. text_of o ≡ answer_of E.Block.Block.arith kind (E.Engine.means engine.old) bits message.now) }
 {
     match kind {
         Kind::Pmac => tag_answer(heap, engine, bits, message),
@@ -93,7 +93,7 @@ fn tag_answer<E: Engine>(
     bits: usize,
     message: &[u8],
 ) -> Result<Option<String>, AllocError>
-    ensures { IfOk result (λ o. text_of o ≡ tag_text Block-as-Block.arith (full_tag Block-as-Block.arith (E.Engine.means engine.old) message.now bits)) }
+    ensures { IfOk result (λ o. text_of o ≡ tag_text E.Block.Block.arith (full_tag E.Block.Block.arith (E.Engine.means engine.old) message.now bits)) }
 {
     match pmac::full_tag(engine, message, bits) {
         Ok(FullTag { tag, .. }) => Ok(Some(tag_hex(heap, tag)?)),
@@ -106,8 +106,8 @@ fn block_answer<E: Engine>(
     engine: &mut E,
     message: &[u8],
 ) -> Result<Option<String>, AllocError>
-    requires { length message.now ≡ Block-as-Block.arith.size }
-    ensures { IfOk result (λ o. text_of o ≡ block_text Block-as-Block.arith (answered (E.Engine.means engine.old).left ((E.Engine.means engine.old).enc (from_bytes Block-as-Block.arith message.now)))) }
+    requires { length message.now ≡ E.Block.Block.arith.size }
+    ensures { IfOk result (λ o. text_of o ≡ block_text E.Block.Block.arith (answered (E.Engine.means engine.old).left ((E.Engine.means engine.old).enc (from_bytes E.Block.Block.arith message.now)))) }
 {
     match engine.encipher(E::Block::read(message)) {
         Ok(block) => Ok(Some(tag_hex(heap, block)?)),
