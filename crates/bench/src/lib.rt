@@ -1,4 +1,4 @@
-// What `bench/` times, for C to call: sums of enciphered and of deciphered blocks, full tags, and the calls of an overlay.
+// What `bench/` times: sums of enciphered and of deciphered blocks, full tags, and the calls of an overlay.
 #![tactic(auto)]
 
 mod calls;
@@ -16,8 +16,7 @@ use block::{Block, Block128};
 use xtea::Xtea;
 
 // The sum of the blocks of `memory`, enciphered under `key`; 0 where that is refused.
-#[unsafe(no_mangle)]
-pub extern "C" fn bench_aes128_encipher(key: &[u8], memory: &[u8]) -> u64
+pub fn bench_aes128_encipher(key: &[u8], memory: &[u8]) -> u64
     ensures { (result ≡ 0) ⊎ (result ≡ enciphering (aes 4 key.now 4294967295) memory.now) }
 {
     let Ok(mut engine) = Aes128::new(key, u32::MAX) else {
@@ -30,8 +29,7 @@ pub extern "C" fn bench_aes128_encipher(key: &[u8], memory: &[u8]) -> u64
 }
 
 // The same, deciphered.
-#[unsafe(no_mangle)]
-pub extern "C" fn bench_aes128_decipher(key: &[u8], memory: &[u8]) -> u64
+pub fn bench_aes128_decipher(key: &[u8], memory: &[u8]) -> u64
     ensures { (result ≡ 0) ⊎ (result ≡ deciphering (aes 4 key.now 4294967295) memory.now) }
 {
     let Ok(mut engine) = Aes128::new(key, u32::MAX) else {
@@ -44,8 +42,7 @@ pub extern "C" fn bench_aes128_decipher(key: &[u8], memory: &[u8]) -> u64
 }
 
 // The full tag of `memory` under AES-128; 0 where that is refused.
-#[unsafe(no_mangle)]
-pub extern "C" fn bench_aes128_pmac(key: &[u8], memory: &[u8]) -> u64
+pub fn bench_aes128_pmac(key: &[u8], memory: &[u8]) -> u64
     ensures { result ≡ tag128 (aes 4 key.now 4294967295) memory.now }
 {
     let Ok(mut engine) = Aes128::new(key, u32::MAX) else {
@@ -58,8 +55,7 @@ pub extern "C" fn bench_aes128_pmac(key: &[u8], memory: &[u8]) -> u64
 }
 
 // The same under XTEA.
-#[unsafe(no_mangle)]
-pub extern "C" fn bench_xtea_pmac(key: &[u8], memory: &[u8]) -> u64
+pub fn bench_xtea_pmac(key: &[u8], memory: &[u8]) -> u64
     ensures { result ≡ tag64 (xteaOf key.now 4294967295) memory.now }
 {
     let Ok(mut engine) = Xtea::new(key, u32::MAX) else {
@@ -73,8 +69,7 @@ pub extern "C" fn bench_xtea_pmac(key: &[u8], memory: &[u8]) -> u64
 
 // The tag of what stands in `memory` after `message` was added to an overlay in pieces of `piece` bytes, and then
 // edited block by block; 0 where one of these is refused.
-#[unsafe(no_mangle)]
-pub extern "C" fn bench_aes128_calls(
+pub fn bench_aes128_calls(
     key: &[u8],
     memory: &mut [u8],
     message: &[u8],
