@@ -7,7 +7,7 @@ mod tags;
 
 ghost use Rattle.std.specs.Prelude.{◌≡◌, ◌*◌, ◌⊎◌, length};
 ghost use Rattle.aes.specs.Maps.{aes};
-ghost use Rattle.xtea.specs.Xtea.{made as xteaOf};
+ghost use Rattle.xtea.specs.Xtea.{made as xtea_of};
 ghost use Rattle.bench.specs.Calls.{standing128};
 ghost use Rattle.bench.specs.Sums.{folded, enciphering, deciphering, tag128, tag64};
 
@@ -56,7 +56,7 @@ pub fn bench_aes128_pmac(key: &[u8], memory: &[u8]) -> u64
 
 // The same under XTEA.
 pub fn bench_xtea_pmac(key: &[u8], memory: &[u8]) -> u64
-    ensures { result ≡ tag64 (xteaOf key.now 4294967295) memory.now }
+    ensures { result ≡ tag64 (xtea_of key.now 4294967295) memory.now }
 {
     let Ok(mut engine) = Xtea::new(key, u32::MAX) else {
         return 0;

@@ -3,7 +3,7 @@
 
 ghost use Rattle.std.specs.Prelude.{◌≡◌, ◌*◌, ◌⊎◌, length};
 ghost use Rattle.aes.specs.Maps.{aes};
-ghost use Rattle.xtea.specs.Xtea.{made as xteaOf};
+ghost use Rattle.xtea.specs.Xtea.{made as xtea_of};
 ghost use Rattle.bench.specs.Calls.{standing128};
 ghost use Rattle.bench.specs.Sums.{enciphering, deciphering, tag128, tag64};
 
@@ -30,7 +30,7 @@ pub extern "C" fn bench_aes128_pmac(key: &[u8], memory: &[u8]) -> u64
 
 #[unsafe(no_mangle)]
 pub extern "C" fn bench_xtea_pmac(key: &[u8], memory: &[u8]) -> u64
-    ensures { result ≡ tag64 (xteaOf key.now 4294967295) memory.now }
+    ensures { result ≡ tag64 (xtea_of key.now 4294967295) memory.now }
 {
     bench::bench_xtea_pmac(key, memory)
 }

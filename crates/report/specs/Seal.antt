@@ -7,7 +7,7 @@ use Rattle.engine.specs.Meaning.{Meaning}
 use Rattle.engine.specs.Refusals.{Refusal}
 use Rattle.pmac.specs.Sealing.{Outcome, worked, refused, full_tag}
 use Rattle.aes.specs.Maps.{aes}
-use Rattle.xtea.specs.Xtea.{made as xteaOf}
+use Rattle.xtea.specs.Xtea.{made as xtea_of}
 use Rattle.report.specs.declared.cipher.Cipher.{Cipher}
 use Rattle.report.specs.declared.cipher.Cipher.TheVariants.{Aes, Xtea}
 use Rattle.report.specs.Hex.{hex_of}
@@ -38,4 +38,4 @@ seal_under A (Err r) message = refusal_line r.number
 -- a message sealed under a key's bytes, by the cipher that is named
 abbrev pub seal_by : Cipher → List ℕ → List ℕ → List ℕ
 seal_by Aes key message = seal_under arith128 (aes 4 key 1000000) message
-seal_by Xtea key message = seal_under arith64 (xteaOf key 1000000) message
+seal_by Xtea key message = seal_under arith64 (xtea_of key 1000000) message

@@ -7,7 +7,7 @@ use Rattle.engine.specs.Refusals.{Refusal}
 use Rattle.engine.specs.declared.fault.EngineFault.{EngineFault}
 use Rattle.pmac.specs.Sealing.{Outcome, worked, refused, full_tag}
 use Rattle.aes.specs.Maps.{aes}
-use Rattle.xtea.specs.Xtea.{made as xteaOf}
+use Rattle.xtea.specs.Xtea.{made as xtea_of}
 use Rattle.report.specs.declared.cipher.Cipher.{Cipher}
 use Rattle.report.specs.declared.cipher.Cipher.TheVariants.{Aes, Xtea}
 use Rattle.report.specs.declared.vector.Kind.{Kind}
@@ -34,7 +34,7 @@ module _ {B : Type 0} (A : Arith B) where
 
 abbrev pub vector_of : Kind → Cipher → List ℕ → ℕ → List ℕ → Option (List ℕ)
 vector_of kind Aes key b message = answer_under arith128 kind (aes 4 key 1000000) b message
-vector_of kind Xtea key b message = answer_under arith64 kind (xteaOf key 1000000) b message
+vector_of kind Xtea key b message = answer_under arith64 kind (xtea_of key 1000000) b message
 
 -- a text, if there is one
 abbrev pub text_of : {Z : Type 0} → Option (String Z) → Option (List ℕ)

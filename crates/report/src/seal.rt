@@ -1,7 +1,7 @@
 // The text that sealing one overlay prints.
 ghost use Rattle.std.specs.Prelude.{◌≡◌, ◌+◌, ◌*◌, ◌≤◌, true, [], ◌++◌, length, set, IfOk, Some, string_bytes, codes};
 ghost use Rattle.block.specs.Arith.{to_bytes};
-ghost use Rattle.bits.specs.Blocks.{blocks as blocksOf};
+ghost use Rattle.bits.specs.Blocks.{blocks as blocks_of};
 ghost use Rattle.overlay.specs.Calls.{taggable};
 ghost use Rattle.overlay.specs.Laws.{Stands};
 ghost use Rattle.overlay.specs.Ledger.{at};
@@ -11,9 +11,9 @@ ghost use Rattle.report.specs.Hex.{hex_of};
 ghost use Rattle.report.specs.Seal.{refusal_line, seal_of, seal_under, seal_by, under_header};
 ghost use Rattle.report.specs.Shown.{line_bytes};
 ghost use Rattle.block.specs.Blocks.{arith64, arith128};
-ghost use Rattle.aes.specs.Maps.{aes as aesOf};
+ghost use Rattle.aes.specs.Maps.{aes as aes_of};
 ghost use Rattle.engine.specs.Refusals.{key_refusal};
-ghost use Rattle.xtea.specs.Xtea.{made as xteaOf};
+ghost use Rattle.xtea.specs.Xtea.{made as xtea_of};
 
 use crate::{Cipher, hex};
 use aes::Aes128;
@@ -148,7 +148,7 @@ fn line_by(heap: Global, cipher: Cipher, key: &[u8], message: &[u8]) -> Result<S
 }
 
 fn aes_line(heap: Global, key: &[u8], message: &[u8]) -> Result<SealLine, AllocError>
-    ensures { IfOk result (λ line. line_bytes line ≡ seal_under arith128 (aesOf 4 key.now 1000000) message.now) }
+    ensures { IfOk result (λ line. line_bytes line ≡ seal_under arith128 (aes_of 4 key.now 1000000) message.now) }
 {
     match Aes128::new(key, ALLOWANCE) {
         Ok(engine) => seal_line(heap, engine, message),
@@ -157,7 +157,7 @@ fn aes_line(heap: Global, key: &[u8], message: &[u8]) -> Result<SealLine, AllocE
 }
 
 fn xtea_line(heap: Global, key: &[u8], message: &[u8]) -> Result<SealLine, AllocError>
-    ensures { IfOk result (λ line. line_bytes line ≡ seal_under arith64 (xteaOf key.now 1000000) message.now) }
+    ensures { IfOk result (λ line. line_bytes line ≡ seal_under arith64 (xtea_of key.now 1000000) message.now) }
 {
     match Xtea::new(key, ALLOWANCE) {
         Ok(engine) => seal_line(heap, engine, message),
@@ -173,7 +173,7 @@ fn sealed<E: Engine + Drop>(
     tag: &mut [u8],
 ) -> Result<u32, OverlayFault>
     requires { Handed E.Block.Block.arith memory.old message.now tag.old }
-    ensures { came result tag.new ≡ sealing E.Block.Block.arith (E.Engine.means engine) message.now (blocksOf E.Block.Block.arith (8 * length message.now) + 1) }
+    ensures { came result tag.new ≡ sealing E.Block.Block.arith (E.Engine.means engine) message.now (blocks_of E.Block.Block.arith (8 * length message.now) + 1) }
 {
     let mut ledger = Ledger::new(0);
     let Opened { outcome, slip } = Open::new(engine, memory);
@@ -198,7 +198,7 @@ fn add_and_tag<E: Engine>(
     requires empty { Stands E.Block.Block.arith (state E.Engine.means opened.old) memory.old [] }
     requires handed { Handed E.Block.Block.arith memory.old message.now tag.old }
     requires free { ((at ledger.old.accounts 1).total ≡ 0) × ((at ledger.old.accounts 2).total ≡ 0) }
-    ensures { came result tag.new ≡ sealing E.Block.Block.arith (E.Engine.means opened.old.engine) message.now (blocksOf E.Block.Block.arith (8 * length message.now)) }
+    ensures { came result tag.new ≡ sealing E.Block.Block.arith (E.Engine.means opened.old.engine) message.now (blocks_of E.Block.Block.arith (8 * length message.now)) }
 {
     let Answer { outcome, slip } = opened.add(memory, message, 8 * message.len() as u32);
     let adding = settle(ledger, 1, slip);

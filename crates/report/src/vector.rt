@@ -1,8 +1,8 @@
 // Answers to test vectors.
 ghost use Rattle.std.specs.Prelude.{◌≡◌, length, IfOk};
 ghost use Rattle.block.specs.Blocks.{arith64, arith128};
-ghost use Rattle.aes.specs.Maps.{aes as aesOf};
-ghost use Rattle.xtea.specs.Xtea.{made as xteaOf};
+ghost use Rattle.aes.specs.Maps.{aes as aes_of};
+ghost use Rattle.xtea.specs.Xtea.{made as xtea_of};
 ghost use Rattle.report.specs.Vector.{tag_text, block_text, answer_of, answer_under, vector_of, text_of};
 ghost use Rattle.engine.specs.Meaning.{answered};
 ghost use Rattle.block.specs.Arith.{from_bytes};
@@ -48,7 +48,7 @@ fn by_aes(
     bits: usize,
     message: &[u8],
 ) -> Result<Option<String>, AllocError>
-    ensures { IfOk result (λ o. text_of o ≡ answer_under arith128 kind (aesOf 4 key.now 1000000) bits message.now) }
+    ensures { IfOk result (λ o. text_of o ≡ answer_under arith128 kind (aes_of 4 key.now 1000000) bits message.now) }
 {
     match Aes128::new(key, ALLOWANCE) {
         Ok(mut engine) => answer(heap, &mut engine, kind, bits, message),
@@ -63,7 +63,7 @@ fn by_xtea(
     bits: usize,
     message: &[u8],
 ) -> Result<Option<String>, AllocError>
-    ensures { IfOk result (λ o. text_of o ≡ answer_under arith64 kind (xteaOf key.now 1000000) bits message.now) }
+    ensures { IfOk result (λ o. text_of o ≡ answer_under arith64 kind (xtea_of key.now 1000000) bits message.now) }
 {
     match Xtea::new(key, ALLOWANCE) {
         Ok(mut engine) => answer(heap, &mut engine, kind, bits, message),

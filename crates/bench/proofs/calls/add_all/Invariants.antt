@@ -5,7 +5,7 @@ use Rattle.bench.proofs.calls.add_all.Given as goal
 
 abbrev pub invariant-loop-start : goal.invariant-loop-start
 invariant-loop-start g l =
-    (Keeps g.Block.Block.arith (state g.E.Engine.means l.opened) l.memory)
+    (Keeps g.E.Block.Block.arith (state g.E.Engine.means l.opened) l.memory)
     × ((g.E.Engine.means l.opened.engine).enc ≡ (g.E.Engine.means l.initial.opened.engine).enc)
 
 abbrev pub decreases-loop-start : goal.decreases-loop-start

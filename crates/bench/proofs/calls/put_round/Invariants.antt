@@ -5,5 +5,5 @@ use Rattle.bench.proofs.calls.put_round.Given as goal
 
 abbrev pub invariant-loop-i : goal.invariant-loop-i
 invariant-loop-i g l =
-    (Keeps g.Block.Block.arith (state g.E.Engine.means l.opened) l.memory)
+    (Keeps g.E.Block.Block.arith (state g.E.Engine.means l.opened) l.memory)
     × ((g.E.Engine.means l.opened.engine).enc ≡ (g.E.Engine.means l.initial.opened.engine).enc)

@@ -10,6 +10,6 @@ loop-i-init g c = (refl, c.zero-sum.ensures)
 pub loop-i-preserved : goal.loop-i-preserved
 loop-i-preserved g c = (
   ap (λ m. m.dec) c.decipher.ensures.after ∙ c.loop-i.invariant.0,
-  more g.Block.Block.arith _ _ c.args.memory.now c.loop-i.i c.loop-i.sum c.xor-sum.result _ c.in-ok-decipher.field-0 c.loop-i.invariant.0 c.loop-i.invariant.1
-      c.block_at.ensures (given _ _ _ c.in-ok-decipher.ensures.answer) c.xor-sum.ensures,
+  more g.E.Block.Block.arith _ _ c.args.memory.now c.loop-i.i c.loop-i.sum c.xor-sum.result _ c.in_ok-decipher.field-0 c.loop-i.invariant.0 c.loop-i.invariant.1
+      c.block_at.ensures (given _ _ _ c.in_ok-decipher.ensures.answer) c.xor-sum.ensures,
 )

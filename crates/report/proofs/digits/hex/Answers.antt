@@ -13,7 +13,7 @@ loop-byte-preserved c =
     pushed c.args.bytes.now c.loop-byte.byte-index (omega arith) _ _ _ _ _ c.digit.result c.digit-in-loop-byte.result
     c.loop-byte.invariant c.digit.ensures.is c.digit-in-loop-byte.ensures.is
     (c.push.ensures.ascii c.digit.ensures.ascii) (c.push-in-loop-byte.ensures.ascii c.digit-in-loop-byte.ensures.ascii)
-    c.in-ok-push.ensures.bytes c.in-ok-push-2.ensures.bytes
+    c.in_ok-push.ensures.bytes c.in_ok-push-2.ensures.bytes
 
 pub returns : goal.returns
 returns c = c.loop-byte.invariant ∙ ap hex_of (take_all c.loop-byte.byte-index c.args.bytes.now (omega arith))

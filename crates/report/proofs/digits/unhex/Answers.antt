@@ -9,14 +9,14 @@ loop-at-preserved c =
     let h : c.loop-at.at + 1 < length text = omega arith in (
       omega arith,
       one_more text c.loop-at.at (vec_items c.loop-at.bytes) c.loop-at.invariant.1 c.in-Some.byte (vec_items c.push.new.self) h
-          (sym c.in-Some.is ∙ c.byte_of.ensures) c.in-ok-push.ensures.items,
+          (sym c.in-Some.is ∙ c.byte_of.ensures) c.in_ok-push.ensures.items,
     )
 
-pub returns-in-default : goal.returns-in-default
-returns-in-default c =
+pub returns-in_default : goal.returns-in_default
+returns-in_default c =
     let text = c.as_bytes-digits.result.now in
     let h : c.loop-at.at + 1 < length text = omega arith in
-    no_byte text c.loop-at.at (vec_items c.loop-at.bytes) c.loop-at.invariant.1 h (sym c.in-default.is ∙ c.byte_of.ensures)
+    no_byte text c.loop-at.at (vec_items c.loop-at.bytes) c.loop-at.invariant.1 h (sym c.in_default.is ∙ c.byte_of.ensures)
     ∙ ap unhexed c.as_bytes-digits.ensures.value
 
 pub returns-then-at-digits : goal.returns-then-at-digits

@@ -10,5 +10,5 @@ returns-in-Err g c =
     let back = c.in-Err.refused in
     let slip = c.new-outcome.result.slip.count in
     let small : length memory ≤ 65536 = omega arith in
-    open_stops g.met.Block.Block.laws (g.E.Engine.means c.args.engine) (g.E.Engine.means back.engine) memory c.args.message.now (overlay_refusal back.fault) slip small
-    (sym (ap (λ o. started g.E.Engine.means g.Block.Block.arith o slip) c.in-Err.is) ∙ c.new-outcome.ensures.after)
+    open_stops g.met.E.Block.Block.laws (g.E.Engine.means c.args.engine) (g.E.Engine.means back.engine) memory c.args.message.now (overlay_refusal back.fault) slip small
+    (sym (ap (λ o. started g.E.Engine.means g.E.Block.Block.arith o slip) c.in-Err.is) ∙ c.new-outcome.ensures.after)

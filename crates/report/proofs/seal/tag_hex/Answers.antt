@@ -3,13 +3,13 @@ use Rattle.std.proofs.lemmas.List.{take_at}
 use Rattle.report.specs.Hex.{hex_of}
 use Rattle.report.proofs.seal.tag_hex.Goals as goal
 
-pub slice-bounds-bytes-end-2 : goal.slice-bounds-bytes-end-2
-slice-bounds-bytes-end-2 g c =
+pub slice_bounds-bytes-end-2 : goal.slice_bounds-bytes-end-2
+slice_bounds-bytes-end-2 g c =
     let k : length c.write.new.bytes ≡ c.size-size.result = c.write.auto.bytes ∙ simp length-take (omega (arith, g.met.B.Block.laws.small)) in
     simp (length-append, length-drop) (omega arith)
 
-pub slice-bounds-hex-end : goal.slice-bounds-hex-end
-slice-bounds-hex-end g c =
+pub slice_bounds-hex-end : goal.slice_bounds-hex-end
+slice_bounds-hex-end g c =
     let k : length c.write.new.bytes ≡ c.size-size.result = c.write.auto.bytes ∙ simp length-take (omega (arith, g.met.B.Block.laws.small)) in
     simp (length-take, length-append, length-drop) (omega arith)
 
