@@ -1,5 +1,5 @@
 -- Hex read from the front, two digits at a time. Assumes nothing.
-use Rattle.std.proofs.Common.{◌≡◌, ℕ, suc, ◌+◌, ◌<◌, ◌≤◌, List, [], ◌∷◌, ◌++◌, length, get_or, drop, Some, None, Option, sym, refl, ap, ◌∙◌, ap₂, append_assoc, append-nil, arith}
+use Rattle.std.proofs.Common.{◌≡◌, ℕ, ◌+◌, ◌<◌, ◌≤◌, List, [], ◌∷◌, ◌++◌, length, get_or, drop, Some, None, Option, sym, refl, ap, ◌∙◌, append_assoc, append-nil, arith}
 use Rattle.std.proofs.lemmas.List.{drop_more, drop_all}
 use Rattle.keys.specs.Digits.{digit_of}
 use Rattle.report.specs.Hex.{byte_in, before, unhexed}
@@ -8,10 +8,6 @@ use Rattle.report.specs.Hex.{byte_in, before, unhexed}
 abbrev pub behind : List ℕ → Option (List ℕ) → Option (List ℕ)
 behind bytes None = None
 behind bytes (Some rest) = Some (bytes ++ rest)
-
-pub behind_none : (o : Option (List ℕ)) → behind [] o ≡ o
-behind_none None = refl
-behind_none (Some rest) = refl
 
 behind_more : (bytes : List ℕ) (b : ℕ) (o : Option (List ℕ)) → behind bytes (before (Some b) o) ≡ behind (bytes ++ (b ∷ [])) o
 behind_more bytes b None = refl

@@ -1,4 +1,4 @@
-use Rattle.std.proofs.Common.{◌≡◌, ◌-◌, ◌≤◌, length}
+use Rattle.std.proofs.Common.{◌≡◌, ◌-◌, length}
 use Rattle.overlay.specs.Views.{state}
 use Rattle.bench.specs.Calls.{Keeps}
 use Rattle.bench.proofs.calls.add_all.Given as goal

@@ -1,4 +1,4 @@
-use Rattle.std.proofs.Common.{length, arith, rules}
+use Rattle.std.proofs.Common.{length, rules}
 use Rattle.bench.proofs.Blocks.{within}
 use Rattle.bench.proofs.sums.block_at.Goals as goal
 

@@ -1,4 +1,4 @@
-use Rattle.std.proofs.Common.{◌≡◌, cond, Some, None, codes, sym, ap, ◌∙◌}
+use Rattle.std.proofs.Common.{cond, Some, None, codes, sym, ap, ◌∙◌}
 use Rattle.std.specs.Str.{bytes_eq}
 use Rattle.std.proofs.lemmas.Slice.Eq.{bytes_eq-Decides}
 use Rattle.report.specs.declared.cipher.Cipher.TheVariants.{Aes, Xtea}

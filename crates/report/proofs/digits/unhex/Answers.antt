@@ -1,4 +1,4 @@
-use Rattle.std.proofs.Common.{◌≡◌, ◌+◌, ◌<◌, ◌≤◌, length, vec_items, sym, ap, ◌∙◌, arith}
+use Rattle.std.proofs.Common.{◌+◌, ◌<◌, ◌≤◌, length, vec_items, sym, ap, ◌∙◌, arith}
 use Rattle.report.specs.Hex.{unhexed}
 use Rattle.report.proofs.Unspelling.{one_more, no_byte, odd_one, all_read}
 use Rattle.report.proofs.digits.unhex.Goals as goal
