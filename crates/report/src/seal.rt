@@ -197,7 +197,8 @@ fn add_and_tag<E: Engine>(
 ) -> Result<u32, OverlayFault>
     requires empty { Stands E.Block.Block.arith (state E.Engine.means opened.old) memory.old [] }
     requires handed { Handed E.Block.Block.arith memory.old message.now tag.old }
-    requires free { ((at ledger.old.accounts 1).total ≡ 0) × ((at ledger.old.accounts 2).total ≡ 0) }
+    requires add_free { (at ledger.old.accounts 1).total ≡ 0 }
+    requires tag_free { (at ledger.old.accounts 2).total ≡ 0 }
     ensures { came result tag.new ≡ sealing E.Block.Block.arith (E.Engine.means opened.old.engine) message.now (blocks_of E.Block.Block.arith (8 * length message.now)) }
 {
     let Answer { outcome, slip } = opened.add(memory, message, 8 * message.len() as u32);
@@ -211,7 +212,8 @@ fn add_and_tag<E: Engine>(
 
 // Books a slip into an account that holds nothing yet, which takes any slip; answers what the slip showed.
 fn settle(ledger: &mut Ledger, account: u8, mut slip: Slip) -> u32
-    requires { (account ≤ 15) × ((at ledger.old.accounts account).total ≡ 0) }
+    requires numbered { account ≤ 15 }
+    requires free { (at ledger.old.accounts account).total ≡ 0 }
     ensures shown { result ≡ slip.count }
     ensures booked { ledger.new.accounts ≡ set ledger.old.accounts account (record { total = slip.count; latest = slip.count }) }
 {

@@ -11,7 +11,7 @@ returns-in_err-outcome g c =
     let v = world g.E.Engine.means c.args.opened.now c.args.memory.now [] in
     let a = seen c.add-outcome.result (world g.E.Engine.means c.add-outcome.new.self c.add-outcome.new.memory []) in
     let p = err_from_is_err_and c.from_residual.result c.from_residual.ensures.1 in
-    came_stopped _ c.from_residual.result c.in_err-outcome.field-0.0 (p.1 ∙ ap Err p.2)
+    came_stopped c.args.tag.now c.from_residual.result c.in_err-outcome.field-0.0 (p.1 ∙ ap Err p.2)
     ∙ add_stops g.met.E.Block.Block.laws v c.args.message.now c.args.tag.now c.requires.empty c.requires.handed a c.add-outcome.ensures.after
     (overlay_refusal c.in_err-outcome.field-0.0) (ap outcome c.in_err-outcome.was)
 
