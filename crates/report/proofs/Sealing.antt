@@ -27,7 +27,7 @@ number_of : Outcome → ℕ
 number_of carried = 0
 number_of (refused r) = r.number
 
--- a call that Passes its tests is refused for what is left, or carried out
+-- a call that passes its tests is refused for what is left, or carried out
 abbrev Pass : List (Bool × ℕ) → Type 0
 Pass [] = Unit {0}
 Pass (t ∷ ts) = (t.0 ≡ false) × (Pass ts)
