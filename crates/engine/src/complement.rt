@@ -8,7 +8,7 @@ ghost use Rattle.block.proofs.Group.{twice};
 ghost use Rattle.std.proofs.Common.{rules};
 
 use crate::{Allowance, Engine, EngineFault};
-use block::{Block, Block as _, Block64};
+use block::{Block, Block64};
 
 #[derive(Drop)]
 pub struct Complement {

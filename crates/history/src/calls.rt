@@ -41,7 +41,7 @@ pub(crate) fn answered<E: Engine>(stage: Stage<E>, answer: Answer, tag: TagBytes
 
 // A call of an open overlay.
 fn on_open<E: Engine>(mut opened: Open<E>, memory: &mut [u8], call: &Call<'_>) -> Stepped<E>
-    ensures { turn_of E.Engine.means result memory.new ≡ «on_open» E.Block.Block.arith (state E.Engine.means opened) memory.old (call_of call.now) }
+    ensures { turn_of E.Engine.means result memory.new ≡ on_open E.Block.Block.arith (state E.Engine.means opened) memory.old (call_of call.now) }
 {
     match call {
         Call::Add { edit, count } => {
@@ -67,7 +67,7 @@ fn on_open<E: Engine>(mut opened: Open<E>, memory: &mut [u8], call: &Call<'_>) -
 
 // A tag of an open overlay.
 fn tag_of<E: Engine>(mut opened: Open<E>, memory: &[u8], bytes: usize) -> Stepped<E>
-    ensures { turn_of E.Engine.means result memory.now ≡ «after_tag» (tag_of E.Block.Block.arith (world E.Engine.means opened memory.now (blank bytes))) }
+    ensures { turn_of E.Engine.means result memory.now ≡ after_tag (tag_of E.Block.Block.arith (world E.Engine.means opened memory.now (blank bytes))) }
 {
     let Tagged { answer, tag } = tag_bytes(&mut opened, memory, bytes);
     answered(Stage::Opened(opened), answer, tag)
@@ -79,7 +79,7 @@ fn on_received<E: Engine>(
     memory: &mut [u8],
     call: &Call<'_>,
 ) -> Stepped<E>
-    ensures { turn_of E.Engine.means result memory.new ≡ «on_received» E.Block.Block.arith (arrived E.Engine.means received) memory.old (call_of call.now) }
+    ensures { turn_of E.Engine.means result memory.new ≡ on_received E.Block.Block.arith (arrived E.Engine.means received) memory.old (call_of call.now) }
 {
     match call {
         Call::Check { tag } => check(received, memory, tag),
@@ -93,7 +93,7 @@ fn on_received<E: Engine>(
 
 // A check: a right tag opens the overlay.
 fn check<E: Engine>(received: Received<E>, memory: &[u8], tag: &[u8]) -> Stepped<E>
-    ensures { turn_of E.Engine.means result memory.now ≡ «after_check» memory.now (check_of E.Block.Block.arith (arrived E.Engine.means received) memory.now tag.now) }
+    ensures { turn_of E.Engine.means result memory.now ≡ after_check memory.now (check_of E.Block.Block.arith (arrived E.Engine.means received) memory.now tag.now) }
 {
     let Checked { outcome, slip } = received.check(memory, tag);
     let tag = TagBytes::none();

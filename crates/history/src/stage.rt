@@ -9,7 +9,7 @@ use engine::Engine;
 impl<E: Engine> Stage<E> {
     // The bits standing.
     pub fn bits(&self) -> u32
-        ensures { result ≡ «bits_in» (kept E.Engine.means self.now) }
+        ensures { result ≡ bits_in (kept E.Engine.means self.now) }
     {
         match self {
             Stage::Returned(_) => 0,
@@ -20,7 +20,7 @@ impl<E: Engine> Stage<E> {
 
     // The operations that the engine has left.
     pub fn left(&self) -> u32
-        ensures { result ≡ «left_in» (kept E.Engine.means self.now) }
+        ensures { result ≡ left_in (kept E.Engine.means self.now) }
     {
         match self {
             Stage::Returned(engine) => engine.left(),

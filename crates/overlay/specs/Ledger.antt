@@ -14,14 +14,14 @@ abbrev pub at : List Account → ℕ → Account
 at accounts i = slice_index_or accounts i (record { total = 0; latest = 0 })
 
 -- a total that would pass 4,294,967,295
-abbrev pub Passes : Account → ℕ → Bool
-Passes a amount = nat_lt (4294967295 - a.total) amount
+abbrev pub passes : Account → ℕ → Bool
+passes a amount = nat_lt (4294967295 - a.total) amount
 
 abbrev pub takes : Account → ℕ → Result (Unit {0}) BookingFault
-takes a amount = cond (Passes a amount) (Err Full) (Ok tt)
+takes a amount = cond (passes a amount) (Err Full) (Ok tt)
 
 abbrev pub entered : Account → ℕ → Account
-entered a amount = cond (Passes a amount) a (record { total = a.total + amount; latest = amount })
+entered a amount = cond (passes a amount) a (record { total = a.total + amount; latest = amount })
 
 -- what a booking gives and leaves: its outcome, the accounts, and what the slip shows
 pub record Booked : Type 0 where
@@ -33,7 +33,7 @@ pub record Booked : Type 0 where
 abbrev pub book : List Account → ℕ → ℕ → Booked
 book accounts slip i =
     cond (nat_lt 15 i) (record { outcome = refused (numbered 16); accounts = accounts; slip = slip })
-    (cond (Passes (at accounts i) slip) (record { outcome = refused (numbered 17); accounts = accounts; slip = slip })
+    (cond (passes (at accounts i) slip) (record { outcome = refused (numbered 17); accounts = accounts; slip = slip })
     (record { outcome = carried; accounts = slice_set accounts i (record { total = (at accounts i).total + slip; latest = slip }); slip = 0 }))
 
 -- account i as it stands, if there is one

@@ -122,7 +122,7 @@ pub(crate) fn blocks_between<B: Block>(low: u32, high: u32) -> Span
 pub(crate) fn touched_blocks<B: Block>(bits: u32, position: u32, count: u32) -> Span
     requires within { position + count ≤ bits }
     requires small { bits ≤ 524288 }
-    ensures from { result.from ≡ «touched_from» B.Block.arith position }
+    ensures from { result.from ≡ touched_from B.Block.arith position }
     ensures count { result.to - result.from ≡ touched_of B.Block.arith bits position count }
     ensures some { 1 ≤ result.from }
     ensures rising { result.from ≤ result.to }

@@ -55,8 +55,21 @@ fn inner_block<E: Engine>(
     let behind = seal::seal_blocks(engine, memory, l, i + 1, count)?;
     let ending = seal::ending(memory, bits, l);
     let y = opened.xor(ending).xor(before.xor(behind));
+    unmasked(engine, y, offset::offset(l, i))
+}
+
+// A block out of its Y, under its offset.
+fn unmasked<E: Engine>(
+    engine: &mut E,
+    y: E::Block,
+    offset: E::Block,
+) -> Result<E::Block, EngineFault>
+    requires { 1 ≤ (E.Engine.means engine.old).left }
+    ensures answer { result ≡ Ok (E.Block.Block.arith.plus ((E.Engine.means engine.old).dec y) offset) }
+    ensures after { E.Engine.means engine.new ≡ spent 1 (E.Engine.means engine.old) }
+{
     let masked = engine.decipher(y)?;
-    Ok(masked.xor(offset::offset(l, i)))
+    Ok(masked.xor(offset))
 }
 
 // The last block, where it is whole.

@@ -2,7 +2,7 @@ use Rattle.std.proofs.Common.{◌≡◌, ◌+◌, ◌-◌, Ok, refl, ap, ◌∙�
 use Rattle.bits.specs.Blocks.{blocks}
 use Rattle.pmac.specs.Pmac.{over}
 use Rattle.pmac.specs.Stored.{stored}
-use Rattle.pmac.proofs.Spending.{ok_same, asked_ok, spent_on}
+use Rattle.pmac.proofs.Spending.{ok_same, spent_on}
 use Rattle.pmac.proofs.Sums.{in_memory}
 use Rattle.pmac.proofs.Recovery.{inner_found}
 use Rattle.pmac.proofs.lost.inner_block.Goals as goal
@@ -26,6 +26,13 @@ seal_blocks-requires-2 g c =
       afforded = omega arith;
     }
 
+pub unmasked-requires : goal.unmasked-requires
+unmasked-requires g c =
+    let m = g.E.Engine.means c.args.engine.now in
+    let first = ap (λ z. z.left) c.seal_blocks.ensures.after in
+    let second = ap (λ z. z.left) c.seal_blocks-2.ensures.after in
+    omega arith
+
 pub returns : goal.returns
 returns g c =
     let A = g.E.Block.Block.arith in
@@ -44,10 +51,10 @@ returns g c =
     let behind_is : c.in_ok-behind.behind ≡ over A (stored A m.enc l memory) (i + 1) (k - (i + 1)) =
     ok_same c.in_ok-behind.behind _ c.seal_blocks-2.result c.in_ok-behind.was c.seal_blocks-2.ensures.answer
     ∙ ap₂ (λ f n. over A (stored A f l memory) (i + 1) (n - (i + 1))) (ap (λ z. z.enc) first) count in
-    let masked_is = asked_ok (λ z. z.dec) (λ _ _. refl) m (g.E.Engine.means c.seal_blocks-2.new.engine) (k - 2) c.xor-y.result c.decipher.result second (omega arith) c.decipher.ensures.answer c.in_ok-masked.masked c.in_ok-masked.was in
+    let y = c.xor-y.result in
     record {
-      answer = ap Ok (c.xor-3.ensures ∙ inner_found w m.enc memory c.args.bits (omega arith) m.dec l c.args.opened i (omega arith) (omega arith)
-          c.ending-ending.result c.in_ok-before.before c.in_ok-behind.behind c.xor-y.result c.in_ok-masked.masked c.offset.result
-          c.ending-ending.ensures before_is behind_is (c.xor-y.ensures ∙ ap₂ A.plus c.xor.ensures c.xor-2.ensures) masked_is c.offset.ensures);
-      after = spent_on m (g.E.Engine.means c.seal_blocks-2.new.engine) (g.E.Engine.means c.decipher.new.self) (k - 2) 1 (k - 1) second c.decipher.ensures.after (omega arith);
+      answer = c.unmasked.ensures.answer ∙ ap Ok (ap (λ z. A.plus (z.dec y) c.offset.result) second ∙ inner_found w m.enc memory c.args.bits (omega arith) m.dec l c.args.opened i (omega arith) (omega arith)
+          c.ending-ending.result c.in_ok-before.before c.in_ok-behind.behind y (m.dec y) c.offset.result
+          c.ending-ending.ensures before_is behind_is (c.xor-y.ensures ∙ ap₂ A.plus c.xor.ensures c.xor-2.ensures) refl c.offset.ensures);
+      after = spent_on m (g.E.Engine.means c.seal_blocks-2.new.engine) (g.E.Engine.means c.unmasked.new.engine) (k - 2) 1 (k - 1) second c.unmasked.ensures.after (omega arith);
     }
