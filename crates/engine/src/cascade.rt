@@ -4,7 +4,7 @@ ghost use Rattle.engine.specs.Layers.{cascade_means};
 ghost use Rattle.engine.specs.Meaning.{answered};
 ghost use Rattle.std.proofs.Common.{rules};
 
-use crate::{Engine, EngineFault};
+use crate::{Engine, EngineFault, afford};
 
 #[derive(Drop)]
 pub struct Cascade<E: Engine, F: Engine<Block = E::Block>> {
@@ -32,10 +32,8 @@ impl<E: Engine, F: Engine<Block = E::Block>> Cascade<E, F> {
     fn check(&self) -> Result<(), EngineFault>
         ensures { result ≡ answered (cascade_means E.Engine.means F.Engine.means self.now).left tt }
     {
-        if self.first.left().min(self.second.left()) == 0 {
-            return Err(EngineFault::Spent { due: 1, left: 0 });
-        }
-        Ok(())
+        afford(&self.first, 1)?;
+        afford(&self.second, 1)
     }
 }
 

@@ -10,8 +10,9 @@ mod mask;
 mod pile;
 mod refusal;
 
-ghost use Rattle.std.specs.Prelude.{◌≡◌, ◌^◌, ◌<◌};
+ghost use Rattle.std.specs.Prelude.{◌≡◌, ℕ, ◌^◌, ◌<◌, List, Result};
 ghost use Rattle.engine.specs.Meaning.{Meaning, Undoes, answered, afforded, spent};
+ghost use Rattle.engine.specs.Refusals.{Refusal, made_by};
 
 pub use allowance::Allowance;
 use block::Block;
@@ -47,6 +48,26 @@ pub trait Engine {
     ghost undoes: { (e : Self) → Undoes (means e) };
 
     ghost bounded: { (e : Self) → (means e).left < 2 ^ 32 };
+}
+
+// An engine that is made of a key.
+pub trait Keyed: Engine {
+    // What comes of a key, with so many operations left.
+    ghost made: { List ℕ → ℕ → Result (Meaning Self.Block) Refusal };
+
+    // The engine of a key, with `left` operations; a key of another length than the cipher's is refused.
+    fn new(key: &[u8], left: u32) -> Result<Self, KeyFault>
+        ensures { made_by Self.means result ≡ made key.now left };
+}
+
+// A refusal, which is told under a number.
+pub trait Numbered: Copy {
+    // Its number, and the values that it tells.
+    ghost refusal: { Self → Refusal };
+
+    // The number under which it is told.
+    fn number(self) -> u32
+        ensures { result ≡ (refusal self).number };
 }
 
 // Whether `due` operations are left; asks the engine for none.

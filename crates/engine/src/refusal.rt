@@ -1,23 +1,22 @@
 // The numbers under which faults are told.
-ghost use Rattle.std.specs.Prelude.{◌≡◌};
 ghost use Rattle.engine.specs.Refusals.{key_refusal, engine_refusal};
 
-use crate::{EngineFault, KeyFault};
+use crate::{EngineFault, KeyFault, Numbered};
 
-impl KeyFault {
-    pub fn number(self) -> u32
-        ensures { result ≡ (key_refusal self).number }
-    {
+impl Numbered for KeyFault {
+    ghost refusal = { key_refusal };
+
+    fn number(self) -> u32 {
         match self {
             KeyFault::Length => 1,
         }
     }
 }
 
-impl EngineFault {
-    pub fn number(self) -> u32
-        ensures { result ≡ (engine_refusal self).number }
-    {
+impl Numbered for EngineFault {
+    ghost refusal = { engine_refusal };
+
+    fn number(self) -> u32 {
         match self {
             EngineFault::Spent { .. } => 8,
         }
