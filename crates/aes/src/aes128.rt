@@ -1,7 +1,6 @@
 // The AES-128 engine.
-ghost use Rattle.std.specs.Prelude.{◌≡◌};
 ghost use Rattle.aes.specs.Maps.{aes};
-ghost use Rattle.aes.specs.Engine.{meaning, made_as};
+ghost use Rattle.aes.specs.Engine.{meaning};
 ghost use Rattle.aes.specs.Keyed.{keys_in};
 ghost use Rattle.aes.specs.MapsLemmas.{keys_fit};
 ghost use Rattle.aes.specs.MapsLemmas as Maps;
@@ -9,27 +8,13 @@ ghost use Rattle.std.proofs.Common.{rules};
 
 use crate::keys::RoundKeys;
 use block::Block128;
-use engine::{Allowance, Engine, EngineFault, KeyFault};
+use engine::{Allowance, Engine, EngineFault, KeyFault, Keyed};
 
+// AES-128 under one key.
 #[derive(Drop)]
 pub struct Aes128 {
     keys: RoundKeys,
     allowance: Allowance,
-}
-
-impl Aes128 {
-    // The engine of a key of sixteen bytes, with `left` operations.
-    pub fn new(key: &[u8], left: u32) -> Result<Self, KeyFault>
-        ensures { made_as result ≡ aes 4 key.now left }
-    {
-        if key.len() != 16 {
-            return Err(KeyFault::Length);
-        }
-        Ok(Aes128 {
-            keys: RoundKeys::new(key),
-            allowance: Allowance::new(left),
-        })
-    }
 }
 
 impl Engine for Aes128 {
@@ -53,5 +38,19 @@ impl Engine for Aes128 {
     fn decipher(&mut self, block: Block128) -> Result<Block128, EngineFault> {
         self.allowance.spend()?;
         Ok(self.keys.decipher(block))
+    }
+}
+
+impl Keyed for Aes128 {
+    ghost made = { aes 4 };
+
+    fn new(key: &[u8], left: u32) -> Result<Self, KeyFault> {
+        if key.len() != 16 {
+            return Err(KeyFault::Length);
+        }
+        Ok(Aes128 {
+            keys: RoundKeys::new(key),
+            allowance: Allowance::new(left),
+        })
     }
 }

@@ -1,13 +1,13 @@
 // The numbers under which faults are told.
-ghost use Rattle.std.specs.Prelude.{◌≡◌};
 ghost use Rattle.book.specs.Refusals.{book_refusal};
 
 use crate::BookFault;
+use engine::Numbered;
 
-impl BookFault {
-    pub fn number(self) -> u32
-        ensures { result ≡ (book_refusal self).number }
-    {
+impl Numbered for BookFault {
+    ghost refusal = { book_refusal };
+
+    fn number(self) -> u32 {
         match self {
             BookFault::Data => 3,
             BookFault::Size => 10,

@@ -1,6 +1,7 @@
 // Why a key could not be typed in or taken.
-ghost use Rattle.std.specs.Prelude.{◌≡◌};
 ghost use Rattle.keys.specs.Refusals.{entry_refusal};
+
+use engine::Numbered;
 
 #[derive(Clone, Copy, PartialEq, Eq, Debug)]
 pub enum EntryFault {
@@ -12,11 +13,10 @@ pub enum EntryFault {
     Incomplete,
 }
 
-impl EntryFault {
-    // The number under which the fault is told.
-    pub fn number(self) -> u32
-        ensures { result ≡ (entry_refusal self).number }
-    {
+impl Numbered for EntryFault {
+    ghost refusal = { entry_refusal };
+
+    fn number(self) -> u32 {
         match self {
             EntryFault::NoDigit => 15,
             EntryFault::Full => 1,

@@ -4,12 +4,12 @@ ghost use Rattle.overlay.specs.Refusals.{overlay_refusal, booking_refusal};
 ghost use Rattle.overlay.specs.declared.fault.OverlayFault.TheVariants.{Engine as by_engine};
 
 use crate::{BookingFault, OverlayFault};
-use engine::EngineFault;
+use engine::{EngineFault, Numbered};
 
-impl OverlayFault {
-    pub fn number(self) -> u32
-        ensures { result ≡ (overlay_refusal self).number }
-    {
+impl Numbered for OverlayFault {
+    ghost refusal = { overlay_refusal };
+
+    fn number(self) -> u32 {
         match self {
             OverlayFault::Memory => 2,
             OverlayFault::Edit => 3,
@@ -23,10 +23,10 @@ impl OverlayFault {
     }
 }
 
-impl BookingFault {
-    pub fn number(self) -> u32
-        ensures { result ≡ (booking_refusal self).number }
-    {
+impl Numbered for BookingFault {
+    ghost refusal = { booking_refusal };
+
+    fn number(self) -> u32 {
         match self {
             BookingFault::NoAccount => 16,
             BookingFault::Full => 17,

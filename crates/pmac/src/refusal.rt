@@ -4,12 +4,12 @@ ghost use Rattle.pmac.specs.Sealing.{tag_refusal};
 ghost use Rattle.pmac.specs.declared.fault.TagFault.TheVariants.{Engine as by_engine};
 
 use crate::TagFault;
-use engine::EngineFault;
+use engine::{EngineFault, Numbered};
 
-impl TagFault {
-    pub fn number(self) -> u32
-        ensures { result ≡ (tag_refusal self).number }
-    {
+impl Numbered for TagFault {
+    ghost refusal = { tag_refusal };
+
+    fn number(self) -> u32 {
         match self {
             TagFault::Memory => 2,
             TagFault::Engine(fault) => fault.number(),

@@ -3,8 +3,7 @@ use Rattle.std.specs.Prelude.{◌≡◌, ℕ, ◌+◌, ◌*◌, ◌/◌, ◌%◌
 use Rattle.block.specs.Blocks.{make64}
 use Rattle.block.specs.declared.block64.Block64.{Block64}
 use Rattle.engine.specs.Meaning.{Meaning}
-use Rattle.engine.specs.Refusals.{Refusal, key_refusal}
-use Rattle.engine.specs.declared.fault.KeyFault.{KeyFault}
+use Rattle.engine.specs.Refusals.{Refusal}
 use Rattle.xtea.specs.declared.Xtea.{Xtea}
 use Rattle.xtea.specs.Cycles.{Words, enciphered, deciphered}
 
@@ -44,11 +43,6 @@ made bytes left = cond (length bytes == 16) (Ok (xtea bytes left)) (Err (record 
 -- what an engine means
 abbrev pub meant : Xtea → Meaning Block64
 meant e = keyed e.key e.allowance.left
-
--- what making an engine gave: the engine by what it means, or the refusal
-abbrev pub seen : Result Xtea KeyFault → Result (Meaning Block64) Refusal
-seen (Ok e) = Ok (meant e)
-seen (Err fault) = Err (key_refusal fault)
 
 -- the published example: key 00 01 .. 0F, block ABCDEFGH
 abbrev pub Published : Type 0

@@ -4,14 +4,14 @@
 mod cycles;
 
 ghost use Rattle.std.specs.Prelude.{◌≡◌, ◌+◌, ◌≤◌, length};
-ghost use Rattle.xtea.specs.Xtea.{halves, joined, made, meant, seen, Published};
+ghost use Rattle.xtea.specs.Xtea.{halves, joined, made, meant, Published};
 ghost use Rattle.xtea.specs.Xtea.{word as word_of};
 ghost use Rattle.xtea.specs.Blocks;
 ghost use Rattle.std.proofs.Common.{rules};
 
 use block::Block64;
 pub use cycles::cycles_undo;
-use engine::{Allowance, Engine, EngineFault, KeyFault};
+use engine::{Allowance, Engine, EngineFault, KeyFault, Keyed};
 
 const KEY_BYTES: usize = 16;
 
@@ -25,21 +25,6 @@ const WORDS: u64 = 1 << 32;
 pub struct Xtea {
     key: [u32; 4],
     allowance: Allowance,
-}
-
-impl Xtea {
-    // The engine of a key of 16 bytes, with `left` operations; a key of another length is refused.
-    pub fn new(key: &[u8], left: u32) -> Result<Self, KeyFault>
-        ensures { seen result ≡ made key.now left }
-    {
-        if key.len() != KEY_BYTES {
-            return Err(KeyFault::Length);
-        }
-        Ok(Xtea {
-            key: [word(key, 0), word(key, 4), word(key, 8), word(key, 12)],
-            allowance: Allowance::new(left),
-        })
-    }
 }
 
 impl Engine for Xtea {
@@ -63,6 +48,20 @@ impl Engine for Xtea {
     fn decipher(&mut self, block: Block64) -> Result<Block64, EngineFault> {
         self.allowance.spend()?;
         Ok(join(cycles::decipher(&self.key, CYCLES, split(block))))
+    }
+}
+
+impl Keyed for Xtea {
+    ghost made = { made };
+
+    fn new(key: &[u8], left: u32) -> Result<Self, KeyFault> {
+        if key.len() != KEY_BYTES {
+            return Err(KeyFault::Length);
+        }
+        Ok(Xtea {
+            key: [word(key, 0), word(key, 4), word(key, 8), word(key, 12)],
+            allowance: Allowance::new(left),
+        })
     }
 }
 
