@@ -13,6 +13,7 @@ ghost use Rattle.bench.specs.Sums.{folded, enciphering, deciphering, tag128, tag
 
 use aes::Aes128;
 use block::{Block, Block128};
+use engine::Keyed;
 use xtea::Xtea;
 
 // The sum of the blocks of `memory`, enciphered under `key`; 0 where that is refused.

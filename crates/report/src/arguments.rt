@@ -7,6 +7,7 @@ ghost use Rattle.report.specs.Seal.{seal_by, under_header};
 
 use crate::seal::under_header;
 use crate::{Cipher, SealLine, cipher_named, seal_text};
+use engine::Numbered;
 use keys::{KEY_BYTES, key_from};
 use std::alloc::{AllocError, Global};
 

@@ -18,7 +18,7 @@ ghost use Rattle.xtea.specs.Xtea.{made as xtea_of};
 use crate::{Cipher, hex};
 use aes::Aes128;
 use block::Block;
-use engine::{Engine, KeyFault};
+use engine::{Engine, KeyFault, Keyed, Numbered};
 use overlay::{Answer, Ledger, Open, Opened, OverlayFault, Slip};
 use std::alloc::{AllocError, Global};
 use std::fmt;

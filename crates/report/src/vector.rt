@@ -12,7 +12,7 @@ use crate::Cipher;
 use crate::seal::{ALLOWANCE, tag_hex};
 use aes::Aes128;
 use block::Block;
-use engine::Engine;
+use engine::{Engine, Keyed};
 use pmac::FullTag;
 use std::alloc::{AllocError, Global};
 use xtea::Xtea;

@@ -3,7 +3,7 @@ ghost use Rattle.std.specs.Prelude.{◌≡◌, vec_len};
 
 use crate::command::Command;
 use aes::Aes128;
-use engine::{Engine, EngineFault};
+use engine::{Engine, EngineFault, Numbered};
 use overlay::{Answer, Ledger, Open, OverlayFault, Slip};
 use report::{hex, unhex};
 use std::alloc::{AllocError, AllocFailed, Global};

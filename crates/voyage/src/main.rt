@@ -8,6 +8,7 @@ mod desk;
 use aes::Aes128;
 use command::command_of;
 use desk::{Desk, settle};
+use engine::{Keyed, Numbered};
 use keys::key_from;
 use overlay::{Ledger, Open, Opened};
 use std::alloc::{AllocError, Global};
