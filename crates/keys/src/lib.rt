@@ -73,6 +73,7 @@ pub fn texts_judged()
 #[cfg(test)]
 mod tests {
     use super::*;
+    use engine::Numbered;
 
     const TEXT: &str = "0123456789abcdefFEDCBA9876543210";
 
