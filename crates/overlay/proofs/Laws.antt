@@ -21,8 +21,7 @@ use Rattle.pmac.proofs.Over.{over_none}
 use Rattle.pmac.proofs.Edits.{adds_written, puts_written}
 use Rattle.pmac.proofs.Prices.{prices}
 use Rattle.overlay.specs.Judging.{decided, cut_conditions, add_conditions, put_conditions, tag_conditions}
-use Rattle.overlay.specs.Receiving.{did}
-use Rattle.overlay.specs.Calls.{State, World, After, sent, cut, cut_done, add, add_done, put, put_done, tag, tag_done}
+use Rattle.overlay.specs.Calls.{State, World, After, sent, did, cut, cut_done, add, add_done, put, put_done, tag, tag_done}
 use Rattle.overlay.specs.Laws.{Stands, then, Edits, Adds, Cuts, Puts, Tags}
 
 pub length_standing : (b : ℕ) (memory : List ℕ) → b ≤ 8 * length memory → length (standing b memory) ≡ b

@@ -1,15 +1,16 @@
 -- What each call of an open overlay gives and leaves, from what it finds. Assumes nothing.
-use Rattle.std.specs.Prelude.{ℕ, ◌+◌, ◌-◌, ◌*◌, Bool, false, cond, not, ◌||◌, List, [], ◌∷◌, length, take, ◌==◌, nat_le, nat_lt}
+use Rattle.std.specs.Prelude.{ℕ, ◌+◌, ◌-◌, List, length, take}
 use Rattle.block.specs.Arith.{Arith, to_bytes}
 use Rattle.bits.specs.Blocks.{blocks, last}
-use Rattle.bits.specs.Memory.{standing, unfit, written}
+use Rattle.bits.specs.Memory.{standing, written}
 use Rattle.engine.specs.Refusals.{Refusal}
 use Rattle.engine.specs.Meaning.{Meaning, spent}
 use Rattle.pmac.specs.Pmac.{over, ending}
 use Rattle.pmac.specs.Stored.{stored}
 use Rattle.pmac.specs.Edits.{touched_from, touched}
 use Rattle.pmac.specs.Prices.{add_due, cut_due, put_due}
-use Rattle.overlay.specs.Refusals.{Outcome, carried, refused, numbered}
+use Rattle.overlay.specs.Refusals.{Outcome, carried, refused}
+use Rattle.overlay.specs.Judging.{decided, open_conditions, add_conditions, cut_conditions, put_conditions, tag_conditions}
 
 -- what an open overlay keeps between calls, with what its engine means
 pub record State (B : Type 0) : Type 0 where
@@ -30,19 +31,19 @@ pub record After (S : Type 0) : Type 0 where
   pub slip : ℕ
   pub world : World S
 
+-- what a call that takes an overlay on gives: the overlay, or why not and what was handed in; and what the slip shows
+pub data Made (S M : Type 0) : Type 0 where
+  made : S → ℕ → Made S M
+  back : M → Refusal → ℕ → Made S M
+
 module _ {S : Type 0} where
   -- refused: all stays, and the slip shows zero
   abbrev pub sent : World S → Refusal → After S
   sent w r = record { outcome = refused r; slip = 0; world = w }
 
-  -- carried out, if what is left covers what is due; else refusal 8
-  abbrev pub afforded : ℕ → World S → ℕ → World S → After S
-  afforded left w due done = cond (nat_lt left due) (sent w (record { number = 8; told = due ∷ left ∷ [] })) (record { outcome = carried; slip = due; world = done })
-
-  -- the tests of a call with their numbers, in rising order; then 8; then what the call leaves
-  abbrev pub judged : ℕ → World S → List (Bool × ℕ) → ℕ → World S → After S
-  judged left w [] due done = afforded left w due done
-  judged left w (t ∷ ts) due done = cond t.0 (sent w (numbered t.1)) (judged left w ts due done)
+  -- carried out for what is due
+  abbrev pub did : ℕ → World S → After S
+  did due w = record { outcome = carried; slip = due; world = w }
 
 module _ {B : Type 0} (A : Arith B) where
   -- the ⊕ of Y over n blocks from one on, as a memory holds them
@@ -59,11 +60,10 @@ module _ {B : Type 0} (A : Arith B) where
         buffer = w.buffer;
       }
 
-  abbrev pub cut_tests : World (State B) → ℕ → List (Bool × ℕ)
-  cut_tests w d = (unfit w.memory w.state.bits, 2) ∷ (nat_lt w.state.bits d, 4) ∷ []
-
   abbrev pub cut : World (State B) → ℕ → After (State B)
-  cut w d = judged w.state.engine.left w (cut_tests w d) (cut_due A w.state.bits d) (cut_done w d)
+  cut w d =
+      let s = w.state in let due = cut_due A s.bits d in
+      decided (sent w) s.engine.left (cut_conditions (length w.memory) s.bits d) due (did due (cut_done w d))
 
   -- add writes a bits at the end: the blocks that are now before the last one enter the sum, as the memory then holds them
   abbrev pub add_done : World (State B) → List ℕ → ℕ → World (State B)
@@ -75,11 +75,10 @@ module _ {B : Type 0} (A : Arith B) where
         buffer = w.buffer;
       }
 
-  abbrev pub add_tests : World (State B) → List ℕ → ℕ → List (Bool × ℕ)
-  add_tests w edit a = (unfit w.memory w.state.bits, 2) ∷ (nat_lt (8 * length edit) a, 3) ∷ (nat_lt (8 * length w.memory) (w.state.bits + a), 5) ∷ []
-
   abbrev pub add : World (State B) → List ℕ → ℕ → After (State B)
-  add w edit a = judged w.state.engine.left w (add_tests w edit a) (add_due A w.state.bits a) (add_done w edit a)
+  add w edit a =
+      let s = w.state in let due = add_due A s.bits a in
+      decided (sent w) s.engine.left (add_conditions (length w.memory) s.bits (length edit) a) due (did due (add_done w edit a))
 
   -- put replaces a bits at a position: each touched block before the last one leaves the sum as it was and enters as it is
   abbrev pub put_done : World (State B) → ℕ → List ℕ → ℕ → World (State B)
@@ -96,15 +95,10 @@ module _ {B : Type 0} (A : Arith B) where
         buffer = w.buffer;
       }
 
-  abbrev pub put_tests : World (State B) → ℕ → List ℕ → ℕ → List (Bool × ℕ)
-  put_tests w pos edit a = (unfit w.memory w.state.bits, 2) ∷ (nat_lt (8 * length edit) a, 3) ∷ (nat_lt w.state.bits (pos + a), 4) ∷ []
-
   abbrev pub put : World (State B) → ℕ → List ℕ → ℕ → After (State B)
-  put w pos edit a = judged w.state.engine.left w (put_tests w pos edit a) (put_due A w.state.bits pos a) (put_done w pos edit a)
-
-  -- a tag has 4, 8, 12 or 16 bytes, and no more than a block
-  abbrev pub taggable : ℕ → Bool
-  taggable n = cond (n == 4 || (n == 8 || (n == 12 || n == 16))) (nat_le n A.size) false
+  put w pos edit a =
+      let s = w.state in let due = put_due A s.bits pos a in
+      decided (sent w) s.engine.left (put_conditions (length w.memory) s.bits pos (length edit) a) due (did due (put_done w pos edit a))
 
   -- the full tag by what is kept, with the last block as the memory holds it
   abbrev pub tag_block : State B → List ℕ → B
@@ -120,19 +114,10 @@ module _ {B : Type 0} (A : Arith B) where
         buffer = take (length w.buffer) (to_bytes A (tag_block s w.memory));
       }
 
-  abbrev pub tag_tests : World (State B) → List (Bool × ℕ)
-  tag_tests w = (unfit w.memory w.state.bits, 2) ∷ (not (taggable (length w.buffer)), 6) ∷ []
-
   abbrev pub tag : World (State B) → After (State B)
-  tag w = judged w.state.engine.left w (tag_tests w) 1 (tag_done w)
+  tag w = decided (sent w) w.state.engine.left (tag_conditions A (length w.memory) w.state.bits (length w.buffer)) 1 (did 1 (tag_done w))
 
-  -- open gives an empty overlay over an engine, or the engine back; with the slip
-  pub data Start : Type 0 where
-    begun : State B → ℕ → Start
-    back : Meaning B → Refusal → ℕ → Start
-
-  abbrev pub begin : Meaning B → List ℕ → Start
+  -- open gives an empty overlay over an engine, or the engine back
+  abbrev pub begin : Meaning B → List ℕ → Made (State B) (Meaning B)
   begin m memory =
-      cond (unfit memory 0) (back m (numbered 2) 0)
-      (cond (nat_lt m.left 1) (back m (record { number = 8; told = 1 ∷ m.left ∷ [] }) 0)
-      (begun (record { bits = 0; l = m.enc A.zero; sum = A.zero; engine = spent 1 m }) 1))
+      decided (λ r. back m r 0) m.left (open_conditions (length memory)) 1 (made (record { bits = 0; l = m.enc A.zero; sum = A.zero; engine = spent 1 m }) 1)

@@ -1,11 +1,10 @@
 -- Which refusal a call meets, and what it owes: decided on the memory's size in bytes, the b bits standing, what is left, and the
 -- call's arguments. Assumes nothing.
-use Rattle.std.specs.Prelude.{ℕ, ◌+◌, ◌*◌, Bool, true, cond, not, List, [], ◌∷◌, ◌==◌, nat_lt}
+use Rattle.std.specs.Prelude.{ℕ, ◌+◌, ◌*◌, Bool, true, false, cond, not, ◌||◌, List, [], ◌∷◌, ◌==◌, nat_le, nat_lt}
 use Rattle.block.specs.Arith.{Arith, width}
 use Rattle.bits.specs.Blocks.{blocks}
 use Rattle.engine.specs.Refusals.{Refusal}
 use Rattle.overlay.specs.Refusals.{numbered}
-use Rattle.overlay.specs.Calls.{taggable}
 
 -- what a call answers: refused by the first of its tests that holds, in rising order of their numbers; then by 8, which tells due and
 -- left; else as it is carried out
@@ -32,9 +31,13 @@ abbrev pub put_conditions : ℕ → ℕ → ℕ → ℕ → ℕ → List (Bool �
 put_conditions size b pos bytes n = (misfits size b, 2) ∷ (nat_lt (8 * bytes) n, 3) ∷ (nat_lt b (pos + n), 4) ∷ []
 
 module _ {B : Type 0} (A : Arith B) where
+  -- a tag has 4, 8, 12 or 16 bytes, and no more than a block
+  abbrev pub taggable : ℕ → Bool
+  taggable n = cond (n == 4 || (n == 8 || (n == 12 || n == 16))) (nat_le n A.size) false
+
   -- of a tag to be worked out, and of one to be checked
   abbrev pub tag_conditions : ℕ → ℕ → ℕ → List (Bool × ℕ)
-  tag_conditions size b bytes = (misfits size b, 2) ∷ (not (taggable A bytes), 6) ∷ []
+  tag_conditions size b bytes = (misfits size b, 2) ∷ (not (taggable bytes), 6) ∷ []
 
   -- no whole block i lies within b bits: i is 0 or over m, or the last block is short
   abbrev pub missing : ℕ → ℕ → Bool

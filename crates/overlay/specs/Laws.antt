@@ -6,8 +6,9 @@ use Rattle.block.specs.Arith.{Arith, to_bytes}
 use Rattle.bits.specs.Memory.{standing}
 use Rattle.pmac.specs.Pmac.{sum, full}
 use Rattle.pmac.specs.Prices.{edit_bound, put_bound}
+use Rattle.engine.specs.Meaning.{Meaning}
 use Rattle.overlay.specs.Refusals.{Outcome, carried, refused}
-use Rattle.overlay.specs.Calls.{State, World, After, Start, begun, back}
+use Rattle.overlay.specs.Calls.{State, World, After, Made, made, back}
 
 -- the bits after a call that makes them ys of xs
 abbrev pub then : {X : Type 0} → Outcome → X → X → X
@@ -47,6 +48,6 @@ module _ {B : Type 0} (A : Arith B) where
         → a.world.buffer ≡ then a.outcome (take (length w.buffer) (to_bytes A (full A w.state.engine.enc bits))) w.buffer
 
   -- an overlay just opened stands for no bits, over any memory
-  abbrev pub Opens : Start A → Type 0
-  Opens (begun s slip) = (memory : List ℕ) → Stands s memory []
+  abbrev pub Opens : Made (State B) (Meaning B) → Type 0
+  Opens (made s slip) = (memory : List ℕ) → Stands s memory []
   Opens (back m r slip) = Unit {0}

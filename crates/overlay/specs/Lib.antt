@@ -1,7 +1,7 @@
 pub mod Refusals
 pub mod Ledger
-pub mod Calls
 pub mod Judging
+pub mod Calls
 pub mod Receiving
 pub mod Views
 pub mod Tests

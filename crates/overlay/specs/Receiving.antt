@@ -2,28 +2,17 @@
 use Rattle.std.specs.Prelude.{ℕ, Bool, true, false, cond, ◌&&◌, List, [], ◌∷◌, length, take, ◌==◌}
 use Rattle.block.specs.Arith.{Arith, from_bytes, to_bytes}
 use Rattle.bits.specs.Memory.{standing, replaced}
-use Rattle.engine.specs.Refusals.{Refusal}
 use Rattle.engine.specs.Meaning.{Meaning, spent}
 use Rattle.pmac.specs.Pmac.{sum, full}
 use Rattle.pmac.specs.Recovery.{recovered}
-use Rattle.overlay.specs.Refusals.{carried, numbered}
-use Rattle.overlay.specs.Calls.{State, World, After, sent}
+use Rattle.overlay.specs.Refusals.{numbered}
+use Rattle.overlay.specs.Calls.{State, World, After, Made, made, back, sent, did}
 use Rattle.overlay.specs.Judging.{decided, misfits, tag_conditions, recover_conditions, whole_due}
 
 -- what a received overlay keeps
 pub record Arrived (B : Type 0) : Type 0 where
   pub bits : ℕ
   pub engine : Meaning B
-
--- after receive: a received overlay, or the engine handed back; with the slip
-pub data Receipt (B : Type 0) : Type 0 where
-  took : Arrived B → ℕ → Receipt B
-  declined : Meaning B → Refusal → ℕ → Receipt B
-
--- after a check: an open overlay, or still a received one; with the slip
-pub data Checked (B : Type 0) : Type 0 where
-  turned : State B → ℕ → Checked B
-  stays : Arrived B → Refusal → ℕ → Checked B
 
 -- two byte strings are the same
 abbrev pub same : List ℕ → List ℕ → Bool
@@ -32,26 +21,21 @@ same [] (y ∷ ys) = false
 same (x ∷ xs) [] = false
 same (x ∷ xs) (y ∷ ys) = x == y && same xs ys
 
-module _ {S : Type 0} where
-  -- carried out for what is due
-  abbrev pub did : ℕ → World S → After S
-  did due w = record { outcome = carried; slip = due; world = w }
-
 module _ {B : Type 0} (A : Arith B) where
   -- receive takes the memory's first b bits, and asks the engine nothing
-  abbrev pub receive : Meaning B → List ℕ → ℕ → Receipt B
-  receive m memory b = cond (misfits (length memory) b) (declined m (numbered 2) 0) (took (record { bits = b; engine = m }) 0)
+  abbrev pub receive : Meaning B → List ℕ → ℕ → Made (Arrived B) (Meaning B)
+  receive m memory b = cond (misfits (length memory) b) (back m (numbered 2) 0) (made (record { bits = b; engine = m }) 0)
 
   -- the tag handed in against the first bytes of the full tag; both ways have asked for all of it
-  abbrev pub checked : Arrived B → List ℕ → List ℕ → Checked B
+  abbrev pub checked : Arrived B → List ℕ → List ℕ → Made (State B) (Arrived B)
   checked h memory tag =
       let enc = h.engine.enc in let l = enc A.zero in let bits = standing h.bits memory in let due = whole_due A h.bits in
       cond (same tag (take (length tag) (to_bytes A (full A enc bits))))
-      (turned (record { bits = h.bits; l = l; sum = sum A enc l bits; engine = spent due h.engine }) due)
-      (stays (record { bits = h.bits; engine = spent due h.engine }) (numbered 9) due)
+      (made (record { bits = h.bits; l = l; sum = sum A enc l bits; engine = spent due h.engine }) due)
+      (back (record { bits = h.bits; engine = spent due h.engine }) (numbered 9) due)
 
-  abbrev pub check : Arrived B → List ℕ → List ℕ → Checked B
-  check h memory tag = decided (λ r. stays h r 0) h.engine.left (tag_conditions A (length memory) h.bits (length tag)) (whole_due A h.bits) (checked h memory tag)
+  abbrev pub check : Arrived B → List ℕ → List ℕ → Made (State B) (Arrived B)
+  check h memory tag = decided (λ r. back h r 0) h.engine.left (tag_conditions A (length memory) h.bits (length tag)) (whole_due A h.bits) (checked h memory tag)
 
   -- recover writes the block that gives the full tag handed in
   abbrev pub recover_done : World (Arrived B) → List ℕ → ℕ → World (Arrived B)

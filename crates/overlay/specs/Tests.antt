@@ -2,8 +2,7 @@
 use Rattle.std.specs.Prelude.{ℕ, ◌*◌, cond, not, List, length, Ok, Err, Result, ◌==◌, nat_lt}
 use Rattle.block.specs.Arith.{Arith}
 use Rattle.bits.specs.Memory.{unfit}
-use Rattle.overlay.specs.Calls.{taggable}
-use Rattle.overlay.specs.Judging.{missing}
+use Rattle.overlay.specs.Judging.{taggable, missing}
 use Rattle.overlay.specs.declared.fault.OverlayFault.{OverlayFault}
 use Rattle.overlay.specs.declared.fault.OverlayFault.TheVariants.{Memory, Edit, Range, Room, TagLength, BlockNumber}
 

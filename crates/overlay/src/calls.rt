@@ -2,44 +2,35 @@
 ghost use Rattle.std.specs.Prelude.{◌≡◌, []};
 ghost use Rattle.overlay.specs.Calls.{begin, add as add_of, cut as cut_of, put as put_of, tag as tag_of};
 ghost use Rattle.overlay.specs.Laws.{Opens, Adds, Cuts, Puts, Tags};
-ghost use Rattle.overlay.specs.Views.{world, worked, seen, started, Returned};
+ghost use Rattle.overlay.specs.Views.{state, world, worked, seen, taken, Returned};
 
 use crate::judge::Span;
-use crate::{Answer, Open, Opened, OverlayFault, Refused, Slip, judge};
+use crate::{Answer, Open, OverlayFault, Refused, judge};
 use block::Block;
 use engine::Engine;
 
 impl<E: Engine> Open<E> {
     // An empty overlay over `engine`; a refusal gives the engine back.
-    pub fn new(mut engine: E, memory: &[u8]) -> Opened<E>
-        ensures after { started E.Engine.means E.Block.Block.arith result.outcome result.slip.count ≡ begin E.Block.Block.arith (E.Engine.means engine) memory.now }
+    pub fn new(mut engine: E, memory: &[u8]) -> Answer<Self, Refused<E>>
+        ensures after { taken (state E.Engine.means) E.Engine.means result.outcome result.slip.count ≡ begin E.Block.Block.arith (E.Engine.means engine) memory.now }
         ensures back { Returned result.outcome engine }
-        ensures law { Opens E.Block.Block.arith (started E.Engine.means E.Block.Block.arith result.outcome result.slip.count) }
+        ensures law { Opens E.Block.Block.arith (taken (state E.Engine.means) E.Engine.means result.outcome result.slip.count) }
     {
         if let Err(fault) = judge::fit(memory, 0) {
-            return Opened {
-                outcome: Err(Refused { fault, engine }),
-                slip: Slip::of(0),
-            };
+            return Answer::refused(Refused::new(fault, engine), 0);
         }
         let zero = E::Block::zero();
         match engine.encipher(zero) {
-            Ok(l) => Opened {
-                outcome: Ok(Open {
+            Ok(l) => {
+                let open = Open {
                     engine,
                     bits: 0,
                     l,
                     sum: zero,
-                }),
-                slip: Slip::of(1),
-            },
-            Err(fault) => Opened {
-                outcome: Err(Refused {
-                    fault: OverlayFault::Engine(fault),
-                    engine,
-                }),
-                slip: Slip::of(0),
-            },
+                };
+                Answer::given(open, 1)
+            }
+            Err(fault) => Answer::refused(Refused::new(fault.into(), engine), 0),
         }
     }
 

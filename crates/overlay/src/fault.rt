@@ -1,7 +1,7 @@
 // Why a call of an overlay, or a booking, is refused.
 use engine::EngineFault;
 
-#[derive(Clone, Copy)]
+#[derive(Clone, Copy, PartialEq, Eq, Debug)]
 pub enum OverlayFault {
     // The memory is over 65,536 bytes, or under the bits standing.
     Memory,
@@ -20,7 +20,7 @@ pub enum OverlayFault {
     Engine(EngineFault),
 }
 
-#[derive(Clone, Copy)]
+#[derive(Clone, Copy, PartialEq, Eq, Debug)]
 pub enum BookingFault {
     // There are sixteen accounts, 0 to 15.
     NoAccount,

@@ -89,8 +89,8 @@ pub(crate) fn same_bytes(a: &[u8], b: &[u8]) -> bool
     ensures { result ≡ same a.now b.now }
 {
     let mut right = true;
-    for i in 0..a.len() {
-        right &= a[i] == b[i];
+    for (x, y) in a.iter().zip(b) {
+        right &= x == y;
     }
     right
 }

@@ -61,10 +61,7 @@ impl Ledger {
     pub fn account(&self, number: u8) -> Option<Account>
         ensures { result ≡ held self.now.accounts number }
     {
-        if number > 15 {
-            return None;
-        }
-        Some(self.accounts[number as usize])
+        self.accounts.get(number as usize).copied()
     }
 
     // Moves a slip's number into an account, and leaves the slip at zero.

@@ -13,6 +13,6 @@ mod slip;
 
 pub use fault::{BookingFault, OverlayFault};
 pub use ledger::{Account, Ledger};
-pub use open::{Open, Opened, Refused};
-pub use received::{Checked, Received, Taken, Unopened};
-pub use slip::{Answer, Slip};
+pub use open::Open;
+pub use received::Received;
+pub use slip::{Answer, Refused, Slip};

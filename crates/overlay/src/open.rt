@@ -1,7 +1,6 @@
-// An open overlay, and what opening one answers.
+// An open overlay.
 ghost use Rattle.std.specs.Prelude.{◌≡◌};
 
-use crate::{OverlayFault, Slip};
 use engine::Engine;
 
 // What is kept of an overlay between calls: the engine, the bits standing, L, and the sum of Y over the blocks
@@ -28,17 +27,4 @@ impl<E: Engine> Open<E> {
     {
         self.engine.left()
     }
-}
-
-// Why no overlay was opened, and the engine handed back.
-#[derive(Drop)]
-pub struct Refused<E: Engine> {
-    pub fault: OverlayFault,
-    pub engine: E,
-}
-
-// What opening answers.
-pub struct Opened<E: Engine> {
-    pub outcome: Result<Open<E>, Refused<E>>,
-    pub slip: Slip,
 }

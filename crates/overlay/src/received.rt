@@ -1,7 +1,6 @@
-// A received overlay, and what receiving and checking one answer.
+// A received overlay, and what checking one works out.
 ghost use Rattle.std.specs.Prelude.{◌≡◌};
 
-use crate::{Open, OverlayFault, Refused, Slip};
 use engine::Engine;
 use pmac::SealedBits;
 
@@ -29,29 +28,9 @@ impl<E: Engine> Received<E> {
     }
 }
 
-// What receiving answers.
-pub struct Taken<E: Engine> {
-    pub outcome: Result<Received<E>, Refused<E>>,
-    pub slip: Slip,
-}
-
-// Why a check opened nothing, and the overlay, still received.
-#[derive(Drop)]
-pub struct Unopened<E: Engine> {
-    pub fault: OverlayFault,
-    pub overlay: Received<E>,
-}
-
-// What a check answers.
-pub struct Checked<E: Engine> {
-    pub outcome: Result<Open<E>, Unopened<E>>,
-    pub slip: Slip,
-}
-
-// What a check worked out, for how many operations, and whether the tag handed in is right.
+// What a check worked out, for how many operations: L and the sum, if the tag handed in is right.
 #[derive(Drop)]
 pub(crate) struct Examined<B> {
-    pub(crate) sealed: SealedBits<B>,
+    pub(crate) right: Option<SealedBits<B>>,
     pub(crate) due: u32,
-    pub(crate) right: bool,
 }

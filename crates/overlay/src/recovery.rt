@@ -1,65 +1,59 @@
 // The calls of a received overlay.
 ghost use Rattle.std.specs.Prelude.{◌≡◌};
 ghost use Rattle.overlay.specs.Receiving.{receive as receive_of, check as check_of, recover as recover_of};
-ghost use Rattle.overlay.specs.Views.{arrived, harbour, taken, found, examined, worked, seen, Returned};
+ghost use Rattle.overlay.specs.Views.{state, arrived, harbour, taken, examined, worked, seen, Returned};
+ghost use Rattle.overlay.specs.Calls.{back};
+ghost use Rattle.overlay.specs.Refusals.{overlay_refusal};
 
 use crate::received::Examined;
-use crate::{Answer, Checked, Open, OverlayFault, Received, Refused, Slip, Taken, Unopened, judge};
+use crate::{Answer, Open, OverlayFault, Received, Refused, judge};
 use block::Block;
 use engine::Engine;
+use pmac::SealedBits;
 
 impl<E: Engine> Received<E> {
     // The memory's first `bits` bits over `engine`, which is asked nothing; a refusal gives it back.
-    pub fn new(engine: E, bits: u32, memory: &[u8]) -> Taken<E>
-        ensures after { taken E.Engine.means result.outcome result.slip.count ≡ receive_of E.Block.Block.arith (E.Engine.means engine) memory.now bits }
+    pub fn new(engine: E, bits: u32, memory: &[u8]) -> Answer<Self, Refused<E>>
+        ensures after { taken (arrived E.Engine.means) E.Engine.means result.outcome result.slip.count ≡ receive_of E.Block.Block.arith (E.Engine.means engine) memory.now bits }
         ensures back { Returned result.outcome engine }
         ensures free { result.slip.count ≡ 0 }
     {
-        let outcome = match judge::fit(memory, bits) {
-            Ok(()) => Ok(Received { engine, bits }),
-            Err(fault) => Err(Refused { fault, engine }),
-        };
-        Taken {
-            outcome,
-            slip: Slip::of(0),
+        match judge::fit(memory, bits) {
+            Ok(()) => Answer::given(Received { engine, bits }, 0),
+            Err(fault) => Answer::refused(Refused::new(fault, engine), 0),
         }
     }
 
     // Opens the overlay if `tag` is its tag's first bytes.
-    pub fn check(mut self, memory: &[u8], tag: &[u8]) -> Checked<E>
-        ensures after { found E.Engine.means result.outcome result.slip.count ≡ check_of E.Block.Block.arith (arrived E.Engine.means self) memory.now tag.now }
+    pub fn check(mut self, memory: &[u8], tag: &[u8]) -> Answer<Open<E>, Refused<Self>>
+        ensures after { taken (state E.Engine.means) (arrived E.Engine.means) result.outcome result.slip.count ≡ check_of E.Block.Block.arith (arrived E.Engine.means self) memory.now tag.now }
     {
         match self.examine(memory, tag) {
-            Ok(Examined { sealed, due, right }) => {
-                let slip = Slip::of(due);
-                if right {
-                    let Received { engine, bits } = self;
-                    return Checked {
-                        outcome: Ok(Open {
-                            engine,
-                            bits,
-                            l: sealed.l,
-                            sum: sealed.sum,
-                        }),
-                        slip,
-                    };
-                }
-                Checked {
-                    outcome: Err(Unopened {
-                        fault: OverlayFault::WrongTag,
-                        overlay: self,
-                    }),
-                    slip,
-                }
+            Ok(
+                Examined {
+                    right: Some(SealedBits { l, sum, .. }),
+                    due,
+                },
+            ) => {
+                let Received { engine, bits } = self;
+                let open = Open {
+                    engine,
+                    bits,
+                    l,
+                    sum,
+                };
+                Answer::given(open, due)
             }
-            Err(fault) => Checked {
-                outcome: Err(Unopened {
-                    fault,
-                    overlay: self,
-                }),
-                slip: Slip::of(0),
-            },
+            Ok(Examined { right: None, due }) => self.kept(OverlayFault::WrongTag, due),
+            Err(fault) => self.kept(fault, 0),
         }
+    }
+
+    // A check that opens nothing: the overlay stays received.
+    fn kept(self, fault: OverlayFault, due: u32) -> Answer<Open<E>, Refused<Self>>
+        ensures { taken (state E.Engine.means) (arrived E.Engine.means) result.outcome result.slip.count ≡ back (arrived E.Engine.means self) (overlay_refusal fault) due }
+    {
+        Answer::refused(Refused::new(fault, self), due)
     }
 
     // The work of `check`.
@@ -73,8 +67,8 @@ impl<E: Engine> Received<E> {
         let sealed = pmac::sealed_bits(&mut self.engine, memory, self.bits as usize)?;
         let mut worked = [0u8; 16];
         judge::write_front(sealed.tag, &mut worked[..tag.len()]);
-        let right = judge::same_bytes(tag, &worked[..tag.len()]);
-        Ok(Examined { sealed, due, right })
+        let right = judge::same_bytes(tag, &worked[..tag.len()]).then_some(sealed);
+        Ok(Examined { right, due })
     }
 
     // Writes block `number` anew, so that `tag` is the full tag; what the block holds is not looked at.

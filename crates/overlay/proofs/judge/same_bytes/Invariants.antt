@@ -1,6 +1,8 @@
-use Rattle.std.proofs.Common.{◌≡◌, take}
+use Rattle.std.proofs.Common.{◌≡◌, ◌&&◌, length}
 use Rattle.overlay.specs.Receiving.{same}
 use Rattle.overlay.proofs.judge.same_bytes.Given as goal
 
-abbrev pub invariant-loop-i : goal.invariant-loop-i
-invariant-loop-i l = l.right ≡ same (take l.i l.a) (take l.i l.b)
+abbrev pub invariant-loop-x : goal.invariant-loop-x
+invariant-loop-x l =
+    let xs = l.x-iterator.a.rest.now in
+    let ys = l.x-iterator.b.rest.now in (same l.a l.b ≡ l.right && same xs ys) × (length xs ≡ length ys)
