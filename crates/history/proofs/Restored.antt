@@ -17,7 +17,8 @@ use Rattle.overlay.specs.Calls.{World, sent}
 use Rattle.overlay.proofs.Laws.{Passes}
 use Rattle.history.specs.Desk.{Turn, arrival, after}
 use Rattle.history.specs.Restoring.{then_recover, restoring, Restores}
-use Rattle.overlay.specs.Receiving.{took, declined, Arrived, did, recover, recover_done}
+use Rattle.overlay.specs.Receiving.{Arrived, recover, recover_done}
+use Rattle.overlay.specs.Calls.{made, back, did}
 
 -- where no test holds and left suffices, a call is carried out
 carried_out : {R : Type 0} (refuse : Refusal → R) (left : ℕ) (ts : List (Bool × ℕ)) (due : ℕ) (done : R) → Passes ts → due ≤ left → decided refuse left ts due done ≡ done
@@ -48,7 +49,7 @@ module _ {B : Type 0} {A : Arith B} (w : arithmetic.Laws A) (m : Meaning B) (und
       let does : recover A start tag i ≡ did (whole_due A b) (recover_done A start tag i) =
       carried_out (sent start) m.left (recover_conditions A (length memory) b (length tag) i) (whole_due A b) (did (whole_due A b) (recover_done A start tag i)) all left in
       let is : t ≡ after arrival (did (whole_due A b) (recover_done A start tag i)) =
-      e ∙ ap (λ z. then_recover A memory tag i (cond z (declined m (record { number = 2; told = [] }) 0) (took a 0))) fit ∙ ap (after arrival) does in
+      e ∙ ap (λ z. then_recover A memory tag i (cond z (back m (record { number = 2; told = [] }) 0) (made a 0))) fit ∙ ap (after arrival) does in
       let stands : standing b new ≡ bits =
       places w memory lost b i p (omega arith) fits ∙ ap₂ (placed A i) lost_is es ∙ placed_twice w i bits p h there v ∙ placed_same w i bits p h in
       record {

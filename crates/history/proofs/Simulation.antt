@@ -18,15 +18,15 @@ use Rattle.pmac.specs.Recovery.{placed, recovered}
 use Rattle.pmac.proofs.Places.{places}
 use Rattle.pmac.proofs.Recovery.{recoveries}
 use Rattle.overlay.specs.Refusals.{carried, refused, numbered}
-use Rattle.overlay.specs.Judging.{decided, misfits, open_conditions, add_conditions, cut_conditions, put_conditions, tag_conditions, recover_conditions, missing, whole_due}
+use Rattle.overlay.specs.Judging.{decided, misfits, taggable, open_conditions, add_conditions, cut_conditions, put_conditions, tag_conditions, recover_conditions, missing, whole_due}
 use Rattle.overlay.specs.Ledger.{Booked, at}
-use Rattle.overlay.specs.Calls.{State, World, After, Start, back, sent, add, add_done, cut, cut_done, put, put_done, tag, tag_done, taggable}
+use Rattle.overlay.specs.Calls.{State, World, After, Made, back, sent, did, add, add_done, cut, cut_done, put, put_done, tag, tag_done}
 use Rattle.overlay.specs.Laws.{Stands, then}
 use Rattle.overlay.specs.declared.ledger.Account.{Account}
 use Rattle.overlay.proofs.Laws.{Passes, length_standing, cut_stands, add_stands, put_stands, tag_stands, tagged, sum_none}
 use Rattle.history.specs.Reckoning.{Beginning, opens, receives, Call, checks, recovers, adds, cuts, puts, tags, books, Answer, silent, says, Phase, returned, received, opened, Reckoning, Verdict, untaken, refusal, wrong, granted, when_open, when_received, booking, paid, next, tag_of, Becomes, given, Goes, beginning}
-use Rattle.history.specs.Desk.{after_receipt, Kept, engine, arrival, open_one, Desk, Turn, Moved, Entered, totals, booked_at, blank, moved, after_check, called, entered, started, after_start, Shows, StandsFor, Follows, Reckons}
-use Rattle.overlay.specs.Receiving.{Receipt, Arrived, Checked, stays, did, same, check, checked, recover, recover_done}
+use Rattle.history.specs.Desk.{after_taken, Kept, engine, arrival, open_one, Desk, Turn, Moved, Entered, totals, booked_at, blank, moved, called, entered, started, Shows, StandsFor, Follows, Reckons}
+use Rattle.overlay.specs.Receiving.{Arrived, same, check, checked, recover, recover_done}
 
 -- two answers by the same tests
 module _ {R S : Type 0} (P : R → S → Type 0) where
@@ -226,11 +226,11 @@ module _ {B : Type 0} {A : Arith B} (w : arithmetic.Laws A) (a : Arrived B) (mem
     slips_are = refl;
   }
 
-  abbrev ChecksOn : List ℕ → Checked B → Verdict → Type 0
+  abbrev ChecksOn : List ℕ → Made (State B) (Arrived B) → Verdict → Type 0
   ChecksOn tag c v =
       (r' : Reckoning)
-      × (Goes A a.engine.enc (length memory) v arrived_old (checks tag) (after_check memory c).answer r'
-      × StandsFor A a.engine.enc (length memory) (moved arrived_desk (after_check memory c)).desk r')
+      × (Goes A a.engine.enc (length memory) v arrived_old (checks tag) (after_taken open_one arrival memory c).answer r'
+      × StandsFor A a.engine.enc (length memory) (moved arrived_desk (after_taken open_one arrival memory c)).desk r')
 
   pub checked_by : (tag : List ℕ) → Follows A a.engine.enc (length memory) arrived_old (checks tag) (called A arrived_desk (checks tag))
   checked_by tag =
@@ -241,7 +241,7 @@ module _ {B : Type 0} {A : Arith B} (w : arithmetic.Laws A) (a : Arrived B) (mem
       let v : ℕ → Verdict = λ b. decided refusal a.engine.left (tag_conditions A (length memory) b (length tag)) (whole_due A b) (cond right (granted (whole_due A b)) (wrong (whole_due A b))) in
       let P : ℕ → Type 0 = λ b. ChecksOn tag (check A a memory tag) (v b) in
       subst P (sym arrived_long)
-      (decided_both (ChecksOn tag) (λ x. stays a x 0) refusal a.engine.left (tag_conditions A (length memory) a.bits (length tag)) due (checked A a memory tag) (cond right (granted due) (wrong due))
+      (decided_both (ChecksOn tag) (λ x. back a x 0) refusal a.engine.left (tag_conditions A (length memory) a.bits (length tag)) due (checked A a memory tag) (cond right (granted due) (wrong due))
       (λ x. (paid received bits 0 arrived_old, ((refl, refl), shows_arrival a memory 0 refl refl nothing_off refl)))
       (λ _ l. both (ChecksOn tag) right _ _ _ _
       (λ _. (
@@ -454,7 +454,7 @@ module _ {B : Type 0} {A : Arith B} (w : arithmetic.Laws A) (m : Meaning B) (mem
 
   pub starts : (b : Beginning) → Starts (started A b m memory) (beginning A m.enc (length memory) b m.left (totals accounts) slips (bits_of memory))
   starts opens =
-      let P : Start A → (Answer × Reckoning) → Type 0 = λ s p. Starts (after_start memory s) p in
+      let P : Made (State B) (Meaning B) → (Answer × Reckoning) → Type 0 = λ s p. Starts (after_taken open_one engine memory s) p in
       decided_both P (λ r. back m r 0) (λ x. (says (refused x) [], record { phase = returned; bits = []; left = m.left; totals = totals accounts; slips = slips ++ (0 ∷ []) })) m.left (open_conditions (length memory)) 1 _ _
       (λ x. comes_back x)
       (λ _ l. (
@@ -468,7 +468,7 @@ module _ {B : Type 0} {A : Arith B} (w : arithmetic.Laws A) (m : Meaning B) (mem
         },
       ))
   starts (receives b) =
-      let P : Receipt B → (Answer × Reckoning) → Type 0 = λ s p. Starts (after_receipt memory s) p in
+      let P : Made (Arrived B) (Meaning B) → (Answer × Reckoning) → Type 0 = λ s p. Starts (after_taken arrival engine memory s) p in
       both P (misfits (length memory) b) _ _ _ _ (λ _. comes_back (numbered 2))
       (λ e. (
         refl,

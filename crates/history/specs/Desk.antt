@@ -6,11 +6,11 @@ use Rattle.bits.specs.Memory.{standing}
 use Rattle.engine.specs.Meaning.{Meaning}
 use Rattle.overlay.specs.Refusals.{Outcome, carried, refused}
 use Rattle.overlay.specs.Ledger.{book}
-use Rattle.overlay.specs.Calls.{State, After, Start, begun, back, begin, add, cut, put, tag}
+use Rattle.overlay.specs.Calls.{State, After, Made, made, back, begin, add, cut, put, tag}
 use Rattle.overlay.specs.Laws.{Stands, then}
 use Rattle.overlay.specs.declared.ledger.Account.{Account}
 use Rattle.history.specs.Reckoning.{Beginning, opens, receives, Call, checks, recovers, adds, cuts, puts, tags, books, Answer, silent, says, returned, received, opened, Reckoning, Step, Reply, Tells, Run, ends, beginning, total, Conserved}
-use Rattle.overlay.specs.Receiving.{Receipt, took, declined, Arrived, Checked, turned, stays, receive, check, recover}
+use Rattle.overlay.specs.Receiving.{Arrived, receive, check, recover}
 
 -- an overlay in one of its states
 pub data Kept (B : Type 0) : Type 0 where
@@ -73,18 +73,10 @@ module _ {B : Type 0} where
   abbrev pub after_tag : After (State B) → Turn B
   after_tag a = turn a.outcome (then a.outcome a.world.buffer []) (open_one a.world.state) a.world.memory a.slip
 
-  abbrev pub after_check : List ℕ → Checked B → Turn B
-  after_check memory (turned s n) = turn carried [] (open_one s) memory n
-  after_check memory (stays h r n) = turn (refused r) [] (arrival h) memory n
-
-  -- after open, and after receive
-  abbrev pub after_start : {A : Arith B} → List ℕ → Start A → Turn B
-  after_start memory (begun s n) = turn carried [] (open_one s) memory n
-  after_start memory (back m r n) = turn (refused r) [] (engine m) memory n
-
-  abbrev pub after_receipt : List ℕ → Receipt B → Turn B
-  after_receipt memory (took h n) = turn carried [] (arrival h) memory n
-  after_receipt memory (declined m r n) = turn (refused r) [] (engine m) memory n
+  -- after open, receive and check: the overlay, or what was handed in
+  abbrev pub after_taken : {S M : Type 0} → (S → Kept B) → (M → Kept B) → List ℕ → Made S M → Turn B
+  after_taken given kept memory (made s n) = turn carried [] (given s) memory n
+  after_taken given kept memory (back m r n) = turn (refused r) [] (kept m) memory n
 
   -- what an overlay tells of itself
   abbrev pub bits_in : Kept B → ℕ
@@ -120,7 +112,7 @@ module _ {B : Type 0} (A : Arith B) where
 
   -- of a received one
   abbrev pub on_received : Arrived B → List ℕ → Call → Turn B
-  on_received h memory (checks t) = after_check memory (check A h memory t)
+  on_received h memory (checks t) = after_taken open_one arrival memory (check A h memory t)
   on_received h memory (recovers t i) = after arrival (recover A (record { state = h; memory = memory; buffer = [] }) t i)
   on_received h memory (adds edit n) = untouched (arrival h) memory
   on_received h memory (cuts n) = untouched (arrival h) memory
@@ -144,8 +136,8 @@ module _ {B : Type 0} (A : Arith B) where
 
   -- open and receive
   abbrev pub started : Beginning → Meaning B → List ℕ → Turn B
-  started opens m memory = after_start memory (begin A m memory)
-  started (receives b) m memory = after_receipt memory (receive A m memory b)
+  started opens m memory = after_taken open_one engine memory (begin A m memory)
+  started (receives b) m memory = after_taken arrival engine memory (receive A m memory b)
 
   -- calls one after the other, on all of a desk
   abbrev pub ran : Desk B → List Call → Desk B

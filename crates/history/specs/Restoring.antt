@@ -10,13 +10,14 @@ use Rattle.overlay.specs.Refusals.{carried, refused}
 use Rattle.overlay.specs.Judging.{whole_due}
 use Rattle.history.specs.Reckoning.{says}
 use Rattle.history.specs.Desk.{Turn, turn, arrival, engine, after}
-use Rattle.overlay.specs.Receiving.{Receipt, took, declined, receive, recover}
+use Rattle.overlay.specs.Calls.{Made, made, back}
+use Rattle.overlay.specs.Receiving.{Arrived, receive, recover}
 
 module _ {B : Type 0} (A : Arith B) where
   -- an overlay is received, and recovered if it is not refused
-  abbrev pub then_recover : List ℕ → List ℕ → ℕ → Receipt B → Turn B
-  then_recover memory tag i (took a n) = after arrival (recover A (record { state = a; memory = memory; buffer = [] }) tag i)
-  then_recover memory tag i (declined e r n) = turn (refused r) [] (engine e) memory n
+  abbrev pub then_recover : List ℕ → List ℕ → ℕ → Made (Arrived B) (Meaning B) → Turn B
+  then_recover memory tag i (made a n) = after arrival (recover A (record { state = a; memory = memory; buffer = [] }) tag i)
+  then_recover memory tag i (back e r n) = turn (refused r) [] (engine e) memory n
 
   abbrev pub restoring : Meaning B → List ℕ → ℕ → List ℕ → ℕ → Turn B
   restoring m memory b tag i = then_recover memory tag i (receive A m memory b)

@@ -1,9 +1,9 @@
 -- Values of the code as plain values. Assumes nothing.
-use Rattle.std.specs.Prelude.{◌≡◌, ℕ, List, [], ◌∷◌, ◌++◌, take, Some, None, Ok, Err, Option, Result}
+use Rattle.std.specs.Prelude.{◌≡◌, ℕ, List, [], ◌∷◌, ◌++◌, Some, None, Ok, Err, Option, Result}
 use Rattle.block.specs.Arith.{Arith}
 use Rattle.engine.specs.Refusals.{Refusal}
 use Rattle.engine.specs.Meaning.{Meaning}
-use Rattle.overlay.specs.Refusals.{Outcome, carried, refused, overlay_refusal, booking_refusal}
+use Rattle.overlay.specs.Refusals.{carried, refused, overlay_refusal, booking_refusal}
 use Rattle.overlay.specs.Views.{state, arrived}
 use Rattle.overlay.specs.declared.ledger.Account.{Account}
 use Rattle.overlay.specs.declared.slip.Slip.{Slip}
@@ -13,7 +13,7 @@ use Rattle.history.specs.declared.call.Beginning as code-beginning
 use Rattle.history.specs.declared.call.Beginning.TheVariants.{Opening, Receipt}
 use Rattle.history.specs.declared.fault.CallFault.{CallFault}
 use Rattle.history.specs.declared.fault.CallFault.TheVariants.{Overlay, Booking}
-use Rattle.history.specs.declared.answer.Said.{Said}
+use Rattle.history.specs.declared.tag.TagBytes.{TagBytes}
 use Rattle.history.specs.declared.answer.Stage.{Stage}
 use Rattle.history.specs.declared.answer.Stage.TheVariants.{Returned, Received, Opened}
 use Rattle.history.specs.declared.answer.Stepped.{Stepped}
@@ -44,14 +44,14 @@ abbrev pub call_refusal : CallFault → Refusal
 call_refusal (Overlay fault) = overlay_refusal fault
 call_refusal (Booking fault) = booking_refusal fault
 
-abbrev pub outcome_of : Result (Unit {0}) CallFault → Outcome
-outcome_of (Ok u) = carried
-outcome_of (Err fault) = refused (call_refusal fault)
+-- what a call says, with a tag's bytes
+abbrev pub said_of : Result TagBytes CallFault → Answer
+said_of (Ok tag) = says carried tag.bytes.items
+said_of (Err fault) = says (refused (call_refusal fault)) []
 
--- an answer, with a tag's bytes
-abbrev pub answer_of : Option Said → Answer
+abbrev pub answer_of : Option (Result TagBytes CallFault) → Answer
 answer_of None = silent
-answer_of (Some x) = says (outcome_of x.outcome) (take x.tag.length x.tag.buffer)
+answer_of (Some said) = said_of said
 
 -- what is told of a call
 abbrev pub reply_of : code-reply.Reply → Reply

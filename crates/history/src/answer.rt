@@ -1,21 +1,10 @@
 // What a call of a history answers, and the overlay in its states.
-use crate::CallFault;
+use crate::{CallFault, TagBytes};
 use engine::Engine;
 use overlay::{Open, Received as ReceivedOverlay, Slip};
 
-// A tag's bytes, or none.
-#[derive(Clone, Copy)]
-pub struct TagBytes {
-    pub(crate) buffer: [u8; 17],
-    pub(crate) length: usize,
-}
-
-// What a call says: its outcome, and the tag's bytes where it gave a tag.
-#[derive(Drop)]
-pub struct Said {
-    pub outcome: Result<(), CallFault>,
-    pub tag: TagBytes,
-}
+// What a call says: the bytes that it gives, or why it is refused.
+pub type Said = Result<TagBytes, CallFault>;
 
 // An overlay in one of its states.
 #[derive(Drop)]

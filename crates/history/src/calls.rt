@@ -1,43 +1,16 @@
 // One call on an overlay, by the public calls of `overlay`.
-ghost use Rattle.std.specs.Prelude.{◌≡◌, [], take, vec_len, vec_capacity};
+ghost use Rattle.std.specs.Prelude.{◌≡◌, [], vec_len, vec_capacity};
 ghost use Rattle.overlay.specs.Views.{state, arrived, world};
 ghost use Rattle.overlay.specs.Calls.{tag as tag_of};
-ghost use Rattle.history.specs.Desk.{Reckons, after_check, after_tag, blank, booked_at, called, on_open, on_received, turn, untouched};
-ghost use Rattle.history.specs.Views.{answer_of, call_of, desk_of, kept, moved_of, outcome_of, shown, turn_of};
-ghost use Rattle.overlay.specs.Refusals.{outcome as overlay_outcome, booking_outcome};
+ghost use Rattle.history.specs.Desk.{Reckons, after_tag, after_taken, arrival, blank, booked_at, called, on_open, on_received, open_one};
+ghost use Rattle.history.specs.Views.{answer_of, call_of, desk_of, moved_of, said_of, shown, turn_of};
+ghost use Rattle.history.specs.Reckoning.{says};
+ghost use Rattle.overlay.specs.Refusals.{booking_outcome};
 ghost use Rattle.overlay.specs.Receiving.{check as check_of};
 
-use crate::tag::{Tagged, tag_bytes};
 use crate::{Call, CallFault, Said, Stage, Stepped, TagBytes};
 use engine::Engine;
-use overlay::{Answer, BookingFault, Checked, Ledger, Open, Received, Slip, Unopened};
-
-// The overlay's state does not take the call.
-fn passed<E: Engine>(stage: Stage<E>) -> Stepped<E>
-    ensures { turn_of E.Engine.means result [] ≡ untouched (kept E.Engine.means stage) [] }
-{
-    Stepped {
-        stage,
-        said: None,
-        slip: None,
-    }
-}
-
-// What an overlay's call answered, with a tag's bytes.
-pub(crate) fn answered<E: Engine>(stage: Stage<E>, answer: Answer, tag: TagBytes) -> Stepped<E>
-    ensures { turn_of E.Engine.means result [] ≡ turn (overlay_outcome answer.outcome) (take tag.length tag.buffer) (kept E.Engine.means stage) [] answer.slip.count }
-{
-    let Answer { outcome, slip } = answer;
-    let outcome = match outcome {
-        Ok(()) => Ok(()),
-        Err(fault) => Err(CallFault::Overlay(fault)),
-    };
-    Stepped {
-        stage,
-        said: Some(Said { outcome, tag }),
-        slip: Some(slip),
-    }
-}
+use overlay::{Answer, BookingFault, Ledger, Open, Received, Refused, Slip};
 
 // A call of an open overlay.
 fn on_open<E: Engine>(mut opened: Open<E>, memory: &mut [u8], call: &Call<'_>) -> Stepped<E>
@@ -46,11 +19,11 @@ fn on_open<E: Engine>(mut opened: Open<E>, memory: &mut [u8], call: &Call<'_>) -
     match call {
         Call::Add { edit, count } => {
             let answer = opened.add(memory, edit, *count);
-            answered(Stage::Opened(opened), answer, TagBytes::none())
+            Stepped::after(Stage::Opened(opened), answer)
         }
         Call::Cut { count } => {
             let answer = opened.cut(memory, *count);
-            answered(Stage::Opened(opened), answer, TagBytes::none())
+            Stepped::after(Stage::Opened(opened), answer)
         }
         Call::Put {
             position,
@@ -58,19 +31,24 @@ fn on_open<E: Engine>(mut opened: Open<E>, memory: &mut [u8], call: &Call<'_>) -
             count,
         } => {
             let answer = opened.put(memory, *position, edit, *count);
-            answered(Stage::Opened(opened), answer, TagBytes::none())
+            Stepped::after(Stage::Opened(opened), answer)
         }
         Call::Tag { bytes } => tag_of(opened, memory, *bytes),
-        _ => passed(Stage::Opened(opened)),
+        _ => Stepped::silent(Stage::Opened(opened)),
     }
 }
 
-// A tag of an open overlay.
+// A tag of an open overlay. The buffer is one byte longer than any tag: a longer one is refused alike.
 fn tag_of<E: Engine>(mut opened: Open<E>, memory: &[u8], bytes: usize) -> Stepped<E>
     ensures { turn_of E.Engine.means result memory.now ≡ after_tag (tag_of E.Block.Block.arith (world E.Engine.means opened memory.now (blank bytes))) }
 {
-    let Tagged { answer, tag } = tag_bytes(&mut opened, memory, bytes);
-    answered(Stage::Opened(opened), answer, tag)
+    let mut tag = TagBytes::blank(bytes);
+    let Answer { outcome, slip } = opened.tag(memory, tag.bytes.as_mut_slice());
+    let said = match outcome {
+        Ok(()) => Ok(tag),
+        Err(fault) => Err(CallFault::Overlay(fault)),
+    };
+    Stepped::told(Stage::Opened(opened), said, slip)
 }
 
 // A call of a received overlay.
@@ -85,57 +63,38 @@ fn on_received<E: Engine>(
         Call::Check { tag } => check(received, memory, tag),
         Call::Recover { tag, block } => {
             let answer = received.recover(memory, tag, *block);
-            answered(Stage::Received(received), answer, TagBytes::none())
+            Stepped::after(Stage::Received(received), answer)
         }
-        _ => passed(Stage::Received(received)),
+        _ => Stepped::silent(Stage::Received(received)),
     }
 }
 
 // A check: a right tag opens the overlay.
 fn check<E: Engine>(received: Received<E>, memory: &[u8], tag: &[u8]) -> Stepped<E>
-    ensures { turn_of E.Engine.means result memory.now ≡ after_check memory.now (check_of E.Block.Block.arith (arrived E.Engine.means received) memory.now tag.now) }
+    ensures { turn_of E.Engine.means result memory.now ≡ after_taken open_one arrival memory.now (check_of E.Block.Block.arith (arrived E.Engine.means received) memory.now tag.now) }
 {
-    let Checked { outcome, slip } = received.check(memory, tag);
-    let tag = TagBytes::none();
+    let Answer { outcome, slip } = received.check(memory, tag);
     match outcome {
-        Ok(opened) => Stepped {
-            stage: Stage::Opened(opened),
-            said: Some(Said {
-                outcome: Ok(()),
-                tag,
-            }),
-            slip: Some(slip),
-        },
-        Err(Unopened { fault, overlay }) => Stepped {
-            stage: Stage::Received(overlay),
-            said: Some(Said {
-                outcome: Err(CallFault::Overlay(fault)),
-                tag,
-            }),
-            slip: Some(slip),
-        },
+        Ok(opened) => Stepped::carried(Stage::Opened(opened), slip),
+        Err(Refused { fault, back }) => Stepped::refused(Stage::Received(back), fault, slip),
     }
 }
 
-// What a booking answered.
+// What a booking says.
 fn said_of(booked: Result<(), BookingFault>) -> Said
-    ensures outcome { outcome_of result.outcome ≡ booking_outcome booked }
-    ensures untagged { take result.tag.length result.tag.buffer ≡ [] }
+    ensures { said_of result ≡ says (booking_outcome booked) [] }
 {
-    let outcome = match booked {
-        Ok(()) => Ok(()),
+    match booked {
+        Ok(()) => Ok(TagBytes::none()),
         Err(fault) => Err(CallFault::Booking(fault)),
-    };
-    Said {
-        outcome,
-        tag: TagBytes::none(),
     }
 }
 
 // Books a slip, if there is one at that place.
 fn book(ledger: &mut Ledger, slips: &mut Vec<Slip>, slip: usize, account: u8) -> Option<Said>
     ensures after { record { answer = answer_of result; accounts = ledger.new.accounts; slips = shown slips.new.items } ≡ booked_at ledger.old.accounts (shown slips.old.items) slip account }
-    ensures room { (vec_len slips.new ≡ vec_len slips.old) × (vec_capacity slips.new ≡ vec_capacity slips.old) }
+    ensures count { vec_len slips.new ≡ vec_len slips.old }
+    ensures room { vec_capacity slips.new ≡ vec_capacity slips.old }
 {
     if slip >= slips.len() {
         return None;
@@ -153,7 +112,8 @@ fn move_on<E: Engine>(
     call: &Call<'_>,
 ) -> Stepped<E>
     ensures after { moved_of E.Engine.means result memory.new ledger.new.accounts slips.new.items ≡ called E.Block.Block.arith (desk_of E.Engine.means stage memory.old ledger.old.accounts slips.old.items) (call_of call.now) }
-    ensures room { (vec_len slips.new ≡ vec_len slips.old) × (vec_capacity slips.new ≡ vec_capacity slips.old) }
+    ensures count { vec_len slips.new ≡ vec_len slips.old }
+    ensures room { vec_capacity slips.new ≡ vec_capacity slips.old }
 {
     if let Call::Book { slip, account } = call {
         let said = book(ledger, slips, *slip, *account);
@@ -164,7 +124,7 @@ fn move_on<E: Engine>(
         };
     }
     match stage {
-        Stage::Returned(engine) => passed(Stage::Returned(engine)),
+        Stage::Returned(engine) => Stepped::silent(Stage::Returned(engine)),
         Stage::Received(received) => on_received(received, memory, call),
         Stage::Opened(opened) => on_open(opened, memory, call),
     }
@@ -181,7 +141,8 @@ pub fn step<E: Engine>(
 ) -> Stepped<E>
     ensures after { moved_of E.Engine.means result memory.new ledger.new.accounts slips.new.items ≡ called E.Block.Block.arith (desk_of E.Engine.means stage memory.old ledger.old.accounts slips.old.items) (call_of call.now) }
     ensures law { Reckons E.Block.Block.arith (desk_of E.Engine.means stage memory.old ledger.old.accounts slips.old.items) (call_of call.now) (moved_of E.Engine.means result memory.new ledger.new.accounts slips.new.items) }
-    ensures room { (vec_len slips.new ≡ vec_len slips.old) × (vec_capacity slips.new ≡ vec_capacity slips.old) }
+    ensures count { vec_len slips.new ≡ vec_len slips.old }
+    ensures room { vec_capacity slips.new ≡ vec_capacity slips.old }
 {
     move_on(stage, memory, ledger, slips, call)
 }

@@ -4,11 +4,9 @@ ghost use Rattle.pmac.specs.Recovery.{OneBlock};
 ghost use Rattle.history.specs.Restoring.{restoring as restoring_of, Restores};
 ghost use Rattle.history.specs.Views.{turn_of};
 
-use crate::calls::answered;
-use crate::run::refused;
-use crate::{Stage, Stepped, TagBytes};
+use crate::{Stage, Stepped};
 use engine::Engine;
-use overlay::{Received, Taken};
+use overlay::{Answer, Received, Refused};
 
 // Receives an overlay of `bits` bits and writes block `number` anew from the others and the full tag. Any other block would
 // give another tag.
@@ -36,12 +34,12 @@ fn write_anew<E: Engine>(
 ) -> Stepped<E>
     ensures { turn_of E.Engine.means result memory.new ≡ restoring_of E.Block.Block.arith (E.Engine.means engine) memory.old bits tag.now number }
 {
-    let Taken { outcome, slip } = Received::new(engine, bits, memory);
+    let Answer { outcome, slip } = Received::new(engine, bits, memory);
     match outcome {
         Ok(mut received) => {
             let answer = received.recover(memory, tag, number);
-            answered(Stage::Received(received), answer, TagBytes::none())
+            Stepped::after(Stage::Received(received), answer)
         }
-        Err(back) => refused(back, slip),
+        Err(Refused { fault, back }) => Stepped::refused(Stage::Returned(back), fault, slip),
     }
 }

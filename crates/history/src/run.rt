@@ -1,42 +1,12 @@
 // Whole histories.
 ghost use Rattle.std.specs.Prelude.{◌≡◌, ◌+◌, ◌<◌, ◌≤◌, true, List, [], ◌∷◌, ◌++◌, length, is_ok, vec_len, vec_capacity};
-ghost use Rattle.overlay.specs.Refusals.{carried, refused as refused_by, overlay_refusal};
-ghost use Rattle.history.specs.Desk.{Advances, Runs, called, engine as engine_back, ran, started as started_of, turn};
-ghost use Rattle.history.specs.Views.{Replayed, beginning_of, call_of, calls_of, desk_of, kept, replies_of, reply_of, shown, slip_of, telling_of, turn_of};
+ghost use Rattle.history.specs.Desk.{Advances, Runs, called, ran, started as started_of};
+ghost use Rattle.history.specs.Views.{Replayed, beginning_of, call_of, calls_of, desk_of, replies_of, reply_of, shown, slip_of, telling_of, turn_of};
 ghost use Rattle.history.specs.declared.answer.Reply.{Reply as CodeReply};
 
-use crate::{Beginning, Call, CallFault, Reply, Said, Stage, Stepped, TagBytes, step};
+use crate::{Beginning, Call, Reply, Stage, Stepped, step};
 use engine::Engine;
-use overlay::{Ledger, Open, Opened, Received, Refused, Slip, Taken};
-
-// Open or receive, carried out.
-fn begun<E: Engine>(stage: Stage<E>, slip: Slip) -> Stepped<E>
-    ensures { turn_of E.Engine.means result [] ≡ turn carried [] (kept E.Engine.means stage) [] slip.count }
-{
-    Stepped {
-        stage,
-        said: Some(Said {
-            outcome: Ok(()),
-            tag: TagBytes::none(),
-        }),
-        slip: Some(slip),
-    }
-}
-
-// Open or receive, refused, with the engine handed back.
-pub(crate) fn refused<E: Engine>(back: Refused<E>, slip: Slip) -> Stepped<E>
-    ensures { turn_of E.Engine.means result [] ≡ turn (refused_by (overlay_refusal back.fault)) [] (engine_back (E.Engine.means back.engine)) [] slip.count }
-{
-    let Refused { fault, engine } = back;
-    Stepped {
-        stage: Stage::Returned(engine),
-        said: Some(Said {
-            outcome: Err(CallFault::Overlay(fault)),
-            tag: TagBytes::none(),
-        }),
-        slip: Some(slip),
-    }
-}
+use overlay::{Answer, Ledger, Open, Received, Refused, Slip};
 
 // Open or receive.
 fn begin<E: Engine>(beginning: Beginning, engine: E, memory: &[u8]) -> Stepped<E>
@@ -44,17 +14,21 @@ fn begin<E: Engine>(beginning: Beginning, engine: E, memory: &[u8]) -> Stepped<E
 {
     match beginning {
         Beginning::Opening => {
-            let Opened { outcome, slip } = Open::new(engine, memory);
+            let Answer { outcome, slip } = Open::new(engine, memory);
             match outcome {
-                Ok(opened) => begun(Stage::Opened(opened), slip),
-                Err(back) => refused(back, slip),
+                Ok(opened) => Stepped::carried(Stage::Opened(opened), slip),
+                Err(Refused { fault, back }) => {
+                    Stepped::refused(Stage::Returned(back), fault, slip)
+                }
             }
         }
         Beginning::Receipt { bits } => {
-            let Taken { outcome, slip } = Received::new(engine, bits, memory);
+            let Answer { outcome, slip } = Received::new(engine, bits, memory);
             match outcome {
-                Ok(received) => begun(Stage::Received(received), slip),
-                Err(back) => refused(back, slip),
+                Ok(received) => Stepped::carried(Stage::Received(received), slip),
+                Err(Refused { fault, back }) => {
+                    Stepped::refused(Stage::Returned(back), fault, slip)
+                }
             }
         }
     }
@@ -64,7 +38,8 @@ fn begin<E: Engine>(beginning: Beginning, engine: E, memory: &[u8]) -> Stepped<E
 fn keep(given: Option<Slip>, slips: &mut Vec<Slip>)
     requires { vec_len slips.old < vec_capacity slips.old }
     ensures slips { shown slips.new.items ≡ shown slips.old.items ++ slip_of given }
-    ensures room { (vec_len slips.new ≤ vec_len slips.old + 1) × (vec_capacity slips.new ≡ vec_capacity slips.old) }
+    ensures count { vec_len slips.new ≤ vec_len slips.old + 1 }
+    ensures room { vec_capacity slips.new ≡ vec_capacity slips.old }
 {
     match given {
         Some(slip) => slips.push_reserved(slip),
@@ -79,8 +54,10 @@ fn note<E: Engine>(stepped: Stepped<E>, slips: &mut Vec<Slip>, replies: &mut Vec
     ensures stage { result ≡ stepped.stage }
     ensures slips { shown slips.new.items ≡ shown slips.old.items ++ slip_of stepped.slip }
     ensures told { replies.new.items ≡ replies.old.items ++ (telling_of E.Engine.means stepped ∷ []) }
-    ensures room { (vec_len slips.new ≤ vec_len slips.old + 1) × (vec_capacity slips.new ≡ vec_capacity slips.old) }
-    ensures space { (vec_len replies.new ≡ vec_len replies.old + 1) × (vec_capacity replies.new ≡ vec_capacity replies.old) }
+    ensures count { vec_len slips.new ≤ vec_len slips.old + 1 }
+    ensures room { vec_capacity slips.new ≡ vec_capacity slips.old }
+    ensures replied { vec_len replies.new ≡ vec_len replies.old + 1 }
+    ensures space { vec_capacity replies.new ≡ vec_capacity replies.old }
 {
     let Stepped { stage, said, slip } = stepped;
     keep(slip, slips);
@@ -103,8 +80,10 @@ fn advance<E: Engine>(
     requires reply_room { vec_len replies.old < vec_capacity replies.old }
     ensures after { desk_of E.Engine.means result memory.new ledger.new.accounts slips.new.items ≡ (called E.Block.Block.arith (desk_of E.Engine.means stage memory.old ledger.old.accounts slips.old.items) (call_of call.now)).desk }
     ensures told { (x : CodeReply) × ((replies.new.items ≡ replies.old.items ++ (x ∷ [])) × Advances E.Block.Block.arith (desk_of E.Engine.means stage memory.old ledger.old.accounts slips.old.items) (call_of call.now) (reply_of x) (desk_of E.Engine.means result memory.new ledger.new.accounts slips.new.items)) }
-    ensures room { (vec_len slips.new ≤ vec_len slips.old + 1) × (vec_capacity slips.new ≡ vec_capacity slips.old) }
-    ensures space { (vec_len replies.new ≡ vec_len replies.old + 1) × (vec_capacity replies.new ≡ vec_capacity replies.old) }
+    ensures count { vec_len slips.new ≤ vec_len slips.old + 1 }
+    ensures room { vec_capacity slips.new ≡ vec_capacity slips.old }
+    ensures replied { vec_len replies.new ≡ vec_len replies.old + 1 }
+    ensures space { vec_capacity replies.new ≡ vec_capacity replies.old }
 {
     let stepped = step(stage, memory, ledger, slips, call);
     note(stepped, slips, replies)

@@ -1,4 +1,4 @@
-use Rattle.std.proofs.Common.{[], set, refl, ◌∙◌, ap₂, arith, rules}
+use Rattle.std.proofs.Common.{[], set, refl, ap, ◌∙◌, arith, rules}
 use Rattle.overlay.specs.Views.{booked}
 use Rattle.history.specs.Desk.{Entered}
 use Rattle.history.specs.Reckoning.{says}
@@ -10,7 +10,7 @@ pub returns-then-slip-len : goal.returns-then-slip-len
 returns-then-slip-len c =
     let v = c.args.slips.now in
     let known = v.ok.0 in
-    record { after = not_there c.args.ledger.now.accounts v.items c.args.slip c.args.account (omega arith); room = (refl, refl) }
+    record { after = not_there c.args.ledger.now.accounts v.items c.args.slip c.args.account (omega arith); count = refl; room = refl }
 
 pub returns : goal.returns
 returns c =
@@ -20,6 +20,6 @@ returns c =
     let b = booked c.book-booked.result c.book-booked.new.self.accounts s.count in
     let made : Entered = record { answer = says b.outcome []; accounts = b.accounts; slips = shown (set v.items c.args.slip s) } in
     let e =
-    ap₂ (λ x y. record { answer = says x y; accounts = b.accounts; slips = made.slips }) c.said_of.ensures.outcome c.said_of.ensures.untagged
+    ap (λ x. record { answer = x; accounts = b.accounts; slips = made.slips }) c.said_of.ensures
     ∙ entered_at c.args.ledger.now.accounts v.items c.args.slip c.args.account c.index_mut.result.now b s (omega arith) (search rules) c.book-booked.ensures.after refl in
-    record { after = e; room = (refl, refl) }
+    record { after = e; count = refl; room = refl }

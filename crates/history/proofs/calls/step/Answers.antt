@@ -18,4 +18,4 @@ returns g c =
     let d = desk_of means c.args.stage c.args.memory.now c.args.ledger.now.accounts (vec_items c.args.slips.now) in
     let k = call_of c.args.call.now in
     let e = c.move_on.ensures.after in
-    record { after = e; law = subst (Reckons g.E.Block.Block.arith d k) (sym e) (follows g.met.E.Block.Block.laws d (undone means g.met.E.Engine.undoes c.args.stage) k); room = c.move_on.ensures.room }
+    record { after = e; law = subst (Reckons g.E.Block.Block.arith d k) (sym e) (follows g.met.E.Block.Block.laws d (undone means g.met.E.Engine.undoes c.args.stage) k); count = c.move_on.ensures.count; room = c.move_on.ensures.room }

@@ -17,6 +17,8 @@ returns g c =
     record {
       after = sym e ∙ ap (λ z. z.desk) c.step-stepped.ensures.after;
       told = (telling_of means s, (c.note.ensures.told, tells g.met.E.Block.Block.laws d (call_of c.args.call.now) m c.step-stepped.ensures.law of e));
-      room = ((let a = c.note.ensures.room.0 in let b = c.step-stepped.ensures.room.0 in omega arith), c.note.ensures.room.1 ∙ c.step-stepped.ensures.room.1);
+      count = let a = c.note.ensures.count in let b = c.step-stepped.ensures.count in omega arith;
+      room = c.note.ensures.room ∙ c.step-stepped.ensures.room;
+      replied = c.note.ensures.replied;
       space = c.note.ensures.space;
     }

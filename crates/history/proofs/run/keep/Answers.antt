@@ -9,5 +9,6 @@ returns-in-Some c =
     let slip = c.in-Some.slip in
     record {
       slips = ap shown c.push_reserved.ensures.items ∙ shown_more items slip ∙ sym (ap (λ z. shown items ++ slip_of z) c.in-Some.is);
-      room = ((let e = c.push_reserved.ensures.len in omega arith), c.push_reserved.ensures.capacity);
+      count = let e = c.push_reserved.ensures.len in omega arith;
+      room = c.push_reserved.ensures.capacity;
     }

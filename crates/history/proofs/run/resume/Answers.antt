@@ -15,12 +15,11 @@ loop-call-preserved g c =
     let inv = c.loop-call.invariant in
     let xs = inv.1.1.1.0 in
     let told = c.advance-stage.ensures.told in
-    let room = c.advance-stage.ensures.room in
-    let space = c.advance-stage.ensures.space in
+    let after = c.advance-stage.ensures in
     let items = vec_items c.args.replies.now in (
-      (let a = inv.0 in let b = room.0 in let e = room.1 in let t = c.loop-call-test.true in omega arith),
+      (let a = inv.0 in let b = after.count in let e = after.room in let t = c.loop-call-test.true in omega arith),
       (
-        (let a = inv.1.0 in let b = space.0 in let e = space.1 in let t = c.loop-call-test.true in omega arith),
+        (let a = inv.1.0 in let b = after.replied in let e = after.space in let t = c.loop-call-test.true in omega arith),
         (
           ran_on g.E.Block.Block.arith _ _ _ c.args.calls.now c.loop-call.call-index _ c.loop-call-test.true inv.1.1.0 c.advance-stage.ensures.after,
           (
