@@ -6,6 +6,7 @@ ghost use Rattle.overlay.specs.Views.{world, worked, seen, started, Returned};
 
 use crate::judge::Span;
 use crate::{Answer, Open, Opened, OverlayFault, Refused, Slip, judge};
+use bits::Bits;
 use block::Block;
 use engine::Engine;
 
@@ -91,7 +92,11 @@ impl<E: Engine> Open<E> {
         let due = (to - from) as u32;
         engine::afford(&self.engine, due)?;
         bits::write_bits(memory, self.bits as usize, edit, count as usize);
-        let come = pmac::seal_blocks(&mut self.engine, memory, self.l, from, to)?;
+        let bits = Bits {
+            memory,
+            len: (self.bits + count) as usize,
+        };
+        let come = pmac::seal_blocks(&mut self.engine, bits, self.l, from..to)?;
         self.sum = self.sum.xor(come);
         self.bits += count;
         Ok(due)
@@ -106,7 +111,11 @@ impl<E: Engine> Open<E> {
         let Span { from, to } = judge::blocks_between::<E::Block>(self.bits - count, self.bits);
         let due = (to - from) as u32;
         engine::afford(&self.engine, due)?;
-        let gone = pmac::seal_blocks(&mut self.engine, memory, self.l, from, to)?;
+        let bits = Bits {
+            memory,
+            len: self.bits as usize,
+        };
+        let gone = pmac::seal_blocks(&mut self.engine, bits, self.l, from..to)?;
         self.sum = self.sum.xor(gone);
         self.bits -= count;
         Ok(due)
@@ -128,9 +137,12 @@ impl<E: Engine> Open<E> {
         let Span { from, to } = judge::touched_blocks::<E::Block>(self.bits, position, count);
         let due = 2 * (to - from) as u32;
         engine::afford(&self.engine, due)?;
-        let old = pmac::seal_blocks(&mut self.engine, memory, self.l, from, to)?;
+        let len = self.bits as usize;
+        let bits = Bits { memory, len };
+        let old = pmac::seal_blocks(&mut self.engine, bits, self.l, from..to)?;
         bits::write_bits(memory, position as usize, edit, count as usize);
-        let new = pmac::seal_blocks(&mut self.engine, memory, self.l, from, to)?;
+        let bits = Bits { memory, len };
+        let new = pmac::seal_blocks(&mut self.engine, bits, self.l, from..to)?;
         self.sum = self.sum.xor(old).xor(new);
         Ok(due)
     }
@@ -142,7 +154,11 @@ impl<E: Engine> Open<E> {
         judge::fit(memory, self.bits)?;
         judge::tag_length::<E::Block>(buffer.len())?;
         engine::afford(&self.engine, 1)?;
-        let last = pmac::ending(memory, self.bits as usize, self.l);
+        let bits = Bits {
+            memory,
+            len: self.bits as usize,
+        };
+        let last = pmac::ending(bits, self.l);
         let full = self.engine.encipher(self.sum.xor(last))?;
         judge::write_front(full, buffer);
         Ok(1)

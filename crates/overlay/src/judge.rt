@@ -7,16 +7,16 @@ ghost use Rattle.overlay.specs.Receiving.{same};
 ghost use Rattle.overlay.specs.Tests.{fits, offers, reaches, leaves, tags, fills, has};
 
 use crate::OverlayFault;
+use bits::Bits;
 use block::Block;
 
 // Refusal 2, unless the memory is no larger than allowed and holds `bits` bits.
 pub(crate) fn fit(memory: &[u8], bits: u32) -> Result<(), OverlayFault>
     ensures { result ≡ fits memory.now bits }
 {
-    if bits::fits(memory, bits as usize) {
-        Ok(())
-    } else {
-        Err(OverlayFault::Memory)
+    match Bits::new(memory, bits as usize) {
+        Some(_) => Ok(()),
+        None => Err(OverlayFault::Memory),
     }
 }
 

@@ -5,6 +5,7 @@ ghost use Rattle.overlay.specs.Views.{arrived, harbour, taken, found, examined, 
 
 use crate::received::Examined;
 use crate::{Answer, Checked, Open, OverlayFault, Received, Refused, Slip, Taken, Unopened, judge};
+use bits::Bits;
 use block::Block;
 use engine::Engine;
 
@@ -68,9 +69,13 @@ impl<E: Engine> Received<E> {
     {
         judge::fit(memory, self.bits)?;
         judge::tag_length::<E::Block>(tag.len())?;
-        let due = pmac::due::<E::Block>(self.bits as usize);
+        let bits = Bits {
+            memory,
+            len: self.bits as usize,
+        };
+        let due = pmac::due::<E::Block>(bits);
         engine::afford(&self.engine, due)?;
-        let sealed = pmac::sealed_bits(&mut self.engine, memory, self.bits as usize)?;
+        let sealed = pmac::sealed_bits(&mut self.engine, bits)?;
         let mut worked = [0u8; 16];
         judge::write_front(sealed.tag, &mut worked[..tag.len()]);
         let right = judge::same_bytes(tag, &worked[..tag.len()]);
@@ -96,11 +101,14 @@ impl<E: Engine> Received<E> {
         judge::fit(memory, self.bits)?;
         judge::full_length::<E::Block>(tag.len())?;
         judge::whole_block::<E::Block>(self.bits, number)?;
-        let bits = self.bits as usize;
+        let bits = Bits {
+            memory,
+            len: self.bits as usize,
+        };
         let due = pmac::due::<E::Block>(bits);
         engine::afford(&self.engine, due)?;
         let full = E::Block::read(tag);
-        let lost = pmac::lost_block(&mut self.engine, memory, bits, full, number as usize)?;
+        let lost = pmac::lost_block(&mut self.engine, bits, full, number as usize)?;
         bits::write_block(memory, number as usize, lost);
         Ok(due)
     }
