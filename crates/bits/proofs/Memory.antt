@@ -1,12 +1,12 @@
 -- Blocks of the bits that stand, read from the memory. Assumes nothing.
-use Rattle.std.proofs.Common.{◌≡◌, ℕ, ◌+◌, ◌-◌, ◌*◌, ◌<◌, ◌≤◌, true, false, List, length, take, drop, sym, ap, ◌∙◌, ap₂, arith, eq-eqb, ne_eqb}
+use Rattle.std.proofs.Common.{◌≡◌, ℕ, ◌+◌, ◌-◌, ◌*◌, ◌<◌, ◌≤◌, cond, List, length, take, drop, sym, ap, ◌∙◌, ap₂, arith, eq-eqb, ne_eqb}
 use Rattle.std.proofs.lemmas.List.{length-take-le, length-take, length-drop, take_all, drop-take, take_rest}
 use Rattle.block.specs.Bits.{bits_of}
 use Rattle.block.specs.Arith.{Arith, Laws, width}
 use Rattle.block.specs.BitsLemmas.{length_bits_of, bits_of_part, take_bits_of, drop_bits_of}
 use Rattle.bits.specs.Blocks.{blocks, part, last, padded}
 use Rattle.bits.specs.Memory.{standing, held, closing}
-use Rattle.bits.specs.declared.Last.{Last}
+use Rattle.bits.specs.declared.Last.TheVariants.{Whole, Padded}
 use Rattle.bits.proofs.Counts.{blocks_inner, blocks_before, blocks_left}
 use Rattle.bits.proofs.Parts.{start_next}
 use Rattle.bits.proofs.Padding.{padded_whole}
@@ -64,21 +64,22 @@ module _ {B : Type 0} {A : Arith B} (w : Laws A) where
       tail = take_rest memory at
 
       -- a short last block, and a whole one
-      pub ends_short : (x : B) → b - 8 * at < width A → x ≡ A.pack (padded A (take (b - 8 * at) (bits_of (take (length memory - at) (drop at memory)))))
-          → ◌≡◌ {A = Last B} (record { block = x; whole = false }) (closing A (standing b memory))
+      pub ends_short : (x : B) → b - 8 * at < width A → x ≡ A.pack (padded A (take (b - 8 * at) (bits_of (take (length memory - at) (drop at memory))))) → Padded x ≡ closing A (standing b memory)
       ends_short x short e =
           let k = long in
-          ap₂ (λ y t. record { block = y; whole = t })
-          (e ∙ ap (λ z. A.pack (padded A (take (b - 8 * at) (bits_of z)))) tail ∙ ap (λ z. A.pack (padded A z)) (sym the_last))
-          (sym (ne_eqb (length (last A (standing b memory))) (width A) (λ q. let n = ap length the_last in omega arith)))
+          let end = last A (standing b memory) in
+          let y = A.pack (padded A end) in
+          ap Padded (e ∙ ap (λ z. A.pack (padded A (take (b - 8 * at) (bits_of z)))) tail ∙ ap (λ z. A.pack (padded A z)) (sym the_last))
+          ∙ ap (λ t. cond t (Whole y) (Padded y)) (sym (ne_eqb (length end) (width A) (λ q. let n = ap length the_last in omega arith)))
 
-      pub ends_whole : (s : ℕ) (x : B) → s ≡ A.size → width A ≤ b - 8 * at → x ≡ A.pack (bits_of (take s (take (length memory - at) (drop at memory))))
-          → ◌≡◌ {A = Last B} (record { block = x; whole = true }) (closing A (standing b memory))
+      pub ends_whole : (s : ℕ) (x : B) → s ≡ A.size → width A ≤ b - 8 * at → x ≡ A.pack (bits_of (take s (take (length memory - at) (drop at memory)))) → Whole x ≡ closing A (standing b memory)
       ends_whole s x es whole e =
           let k = long in let d = length-drop at memory in
+          let end = last A (standing b memory) in
+          let y = A.pack (padded A end) in
           let n : 8 * A.size ≡ b - 8 * at = omega arith in
-          let full : length (last A (standing b memory)) ≡ width A = ap length the_last ∙ (omega arith) in
-          ap₂ (λ y t. record { block = y; whole = t })
+          let full : length end ≡ width A = ap length the_last ∙ (omega arith) in
+          ap Whole
           (e ∙ ap₂ (λ z y. A.pack (bits_of (take z y))) es tail
-          ∙ ap A.pack (sym (take_bits_of A.size (drop at memory) (omega arith)) ∙ ap (λ z. take z (bits_of (drop at memory))) n ∙ sym the_last ∙ sym (padded_whole A (last A (standing b memory)) full)))
-          (sym (eq-eqb (length (last A (standing b memory))) (width A) full))
+          ∙ ap A.pack (sym (take_bits_of A.size (drop at memory) (omega arith)) ∙ ap (λ z. take z (bits_of (drop at memory))) n ∙ sym the_last ∙ sym (padded_whole A end full)))
+          ∙ ap (λ t. cond t (Whole y) (Padded y)) (sym (eq-eqb (length end) (width A) full))

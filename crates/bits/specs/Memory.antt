@@ -5,10 +5,16 @@ use Rattle.block.specs.Bits.{bits_of, bytes_of}
 use Rattle.block.specs.Arith.{Arith, from_bytes, to_bytes}
 use Rattle.bits.specs.Blocks.{last, padded, whole}
 use Rattle.bits.specs.declared.Last.{Last}
+use Rattle.bits.specs.declared.Last.TheVariants.{Whole, Padded}
+use Rattle.bits.specs.declared.view.Bits.{Bits}
 
 -- the first b bits of a memory
 abbrev pub standing : ℕ → List ℕ → List Bool
 standing b memory = take b (bits_of memory)
+
+-- the bits themselves
+abbrev pub content : Bits → List Bool
+content bits = standing bits.len bits.memory.now
 
 -- a memory that is too large, or too small for b bits
 abbrev pub unfit : List ℕ → ℕ → Bool
@@ -29,4 +35,4 @@ module _ {B : Type 0} (A : Arith B) where
 
   -- the last block of some bits, padded where it is short, and whether it is whole
   abbrev pub closing : List Bool → Last B
-  closing bs = record { block = A.pack (padded A (last A bs)); whole = whole A (last A bs) }
+  closing bs = let x = A.pack (padded A (last A bs)) in cond (whole A (last A bs)) (Whole x) (Padded x)

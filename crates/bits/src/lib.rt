@@ -1,31 +1,27 @@
 // Bits in a memory of bytes, read in blocks: position 0 first, the highest bit of a byte first.
 #![tactic(auto)]
 
+mod view;
 mod write;
 
-ghost use Rattle.std.specs.Prelude.{◌≡◌, ℕ, ◌+◌, ◌-◌, ◌*◌, ◌<◌, ◌≤◌, true, false, not, ◌∷◌, ◌++◌, length, take, replicate};
+ghost use Rattle.std.specs.Prelude.{◌≡◌, ◌+◌, ◌-◌, ◌*◌, ◌<◌, ◌≤◌, true, false, not, ◌∷◌, ◌++◌, length, take, replicate, is_some, IfSome};
 ghost use Rattle.block.specs.Bits.{bits as bits_in, bits_of};
 ghost use Rattle.bits.specs.Blocks.{blocks, padded};
-ghost use Rattle.bits.specs.Memory.{standing, unfit, held, closing};
+ghost use Rattle.bits.specs.Memory.{content, unfit, held, closing};
 
 use block::Block;
+pub use view::Bits;
 pub use write::{write_bits, write_block};
-
-// The last block of some bits, padded where it is short.
-#[derive(Clone, Copy)]
-pub struct Last<B> {
-    pub block: B,
-    pub whole: bool,
-}
 
 // The largest memory, in bytes.
 pub const MEMORY_BYTES: usize = 65_536;
 
-// Whether the memory is no larger than allowed, and holds `bits` bits.
-pub fn fits(memory: &[u8], bits: usize) -> bool
-    ensures { result ≡ not (unfit memory.now bits) }
-{
-    memory.len() <= MEMORY_BYTES && bits <= 8 * memory.len()
+// The last block of some bits.
+#[derive(Clone, Copy)]
+pub enum Last<B> {
+    Whole(B),
+    // A short block, with a 1 and zeros behind its bits.
+    Padded(B),
 }
 
 // How many blocks `bits` bits have: at least one.
@@ -35,36 +31,67 @@ pub fn block_count<B: Block>(bits: usize) -> usize
     bits.div_ceil(8 * B::size()).max(1)
 }
 
-// Block `i` of the memory, counted from 1.
-pub fn block_at<B: Block>(memory: &[u8], i: usize) -> B
-    requires numbered { 1 ≤ i }
-    requires inside { i * B.Block.arith.size ≤ length memory.now }
-    ensures { result ≡ held B.Block.arith memory.now i }
-{
-    let size = B::size();
-    let start = (i - 1) * size;
-    B::read(&memory[start..start + size])
-}
+impl<'a> Bits<'a> {
+    // The memory's first `len` bits, unless it is larger than allowed or holds fewer.
+    pub fn new(memory: &'a [u8], len: usize) -> Option<Self>
+        ensures test { is_some result ≡ not (unfit memory.now len) }
+        ensures memory { IfSome result (λ bits. bits.memory.now ≡ memory.now) }
+        ensures len { IfSome result (λ bits. bits.len ≡ len) }
+    {
+        if memory.len() <= MEMORY_BYTES && len <= 8 * memory.len() {
+            Some(Bits { memory, len })
+        } else {
+            None
+        }
+    }
 
-// The last block of the memory's first `bits` bits.
-pub fn last_block<B: Block>(memory: &[u8], bits: usize) -> Last<B>
-    requires { bits ≤ 8 * length memory.now }
-    ensures { result ≡ closing B.Block.arith (standing bits memory.now) }
-{
-    let size = B::size();
-    let start = last_start::<B>(bits);
-    let tail = &memory[start..];
-    let rest = bits - 8 * start;
-    if rest < 8 * size {
-        Last {
-            block: padded_block(tail, rest),
-            whole: false,
+    // Block `i` of the memory, counted from 1.
+    pub fn block<B: Block>(self, i: usize) -> B
+        requires numbered { 1 ≤ i }
+        requires inside { i * B.Block.arith.size ≤ length self.memory.now }
+        ensures { result ≡ held B.Block.arith self.entry.memory.now i }
+    {
+        let size = B::size();
+        let start = (i - 1) * size;
+        B::read(&self.memory[start..start + size])
+    }
+
+    // The last block, padded where it is short.
+    pub fn last_block<B: Block>(self) -> Last<B>
+        ensures { result ≡ closing B.Block.arith (content self.entry) }
+    {
+        let size = B::size();
+        let start = last_start::<B>(self.len);
+        let rest = Bits {
+            memory: &self.memory[start..],
+            len: self.len - 8 * start,
+        };
+        if rest.len < 8 * size {
+            Last::Padded(rest.padded_block())
+        } else {
+            Last::Whole(B::read(&rest.memory[..size]))
         }
-    } else {
-        Last {
-            block: B::read(&tail[..size]),
-            whole: true,
-        }
+    }
+
+    // Bits short of a block, as a padded block.
+    fn padded_block<B: Block>(self) -> B
+        requires { self.len < 8 * B.Block.arith.size }
+        ensures { result ≡ B.Block.arith.pack (padded B.Block.arith (content self.entry)) }
+    {
+        B::read(&self.padded_bytes()[..B::size()])
+    }
+
+    // The bits, then a 1 and zeros, to 128 bits; the memory may end right behind the bits.
+    fn padded_bytes(self) -> [u8; 16]
+        requires { self.len < 128 }
+        ensures { bits_of result ≡ content self.entry ++ (true ∷ replicate (127 - self.entry.len) false) }
+    {
+        let full = self.len / 8;
+        let mut bytes = [0u8; 16];
+        bytes[..full].copy_from_slice(&self.memory[..full]);
+        let next = self.memory.get(full).copied().unwrap_or(0);
+        bytes[full] = closed(next, self.len % 8);
+        bytes
     }
 }
 
@@ -77,32 +104,8 @@ fn last_start<B: Block>(bits: usize) -> usize
     (block_count::<B>(bits) - 1) * B::size()
 }
 
-// The first `rest` bits of `tail`, short of a block, as a padded block.
-fn padded_block<B: Block>(tail: &[u8], rest: usize) -> B
-    requires short { rest < 8 * B.Block.arith.size }
-    requires inside { rest ≤ 8 * length tail.now }
-    ensures { result ≡ B.Block.arith.pack (padded B.Block.arith (take rest (bits_of tail.now))) }
-{
-    let bytes = padded_bytes(tail, rest);
-    B::read(&bytes[..B::size()])
-}
-
-// The first `rest` bits of `tail`, then a 1 and zeros, to 128 bits; `tail` may end right behind them.
-fn padded_bytes(tail: &[u8], rest: usize) -> [u8; 16]
-    requires short { rest < 128 }
-    requires inside { rest ≤ 8 * length tail.now }
-    ensures { bits_of result ≡ take rest (bits_of tail.now) ++ (true ∷ replicate (127 - rest) false) }
-{
-    let full = rest / 8;
-    let mut bytes = [0u8; 16];
-    bytes[..full].copy_from_slice(&tail[..full]);
-    let next = if full < tail.len() { tail[full] } else { 0 };
-    bytes[full] = closed(next, (rest % 8) as u32);
-    bytes
-}
-
 // The first `k` bits of a byte, then a 1 and zeros.
-fn closed(byte: u8, k: u32) -> u8
+fn closed(byte: u8, k: usize) -> u8
     requires { k < 8 }
     ensures { bits_in 8 result ≡ take k (bits_in 8 byte) ++ (true ∷ replicate (7 - k) false) }
 {

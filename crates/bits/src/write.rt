@@ -51,16 +51,12 @@ fn splice_bits(memory: &mut [u8], position: usize, edit: &[u8], count: usize)
     ensures { bits_of memory.new ≡ paste (bits_of memory.old) position (bits_of edit.now) count }
 {
     let mut done = 0;
+    // A `while`: a turn takes the bits that fall into one byte, which are up to eight.
     while done < count {
         let at = position + done;
-        let room = 8 - at % 8;
-        let some = if count - done < room {
-            count - done
-        } else {
-            room
-        };
+        let some = (count - done).min(8 - at % 8);
         let piece = window(edit, done);
-        memory[at / 8] = spliced(memory[at / 8], (at % 8) as u32, piece, some as u32);
+        memory[at / 8] = spliced(memory[at / 8], at % 8, piece, some);
         done += some;
     }
 }
@@ -71,20 +67,20 @@ fn window(edit: &[u8], from: usize) -> u8
     ensures { (c : ℕ) → c ≤ 8 → from + c ≤ 8 * length edit.now → take c (bits_in 8 result) ≡ take c (drop from (bits_of edit.now)) }
 {
     let k = from / 8;
-    let next = if k + 1 < edit.len() { edit[k + 1] } else { 0 };
+    let next = edit.get(k + 1).copied().unwrap_or(0);
     let both = u16::from_be_bytes([edit[k], next]);
     ((both >> (8 - from % 8)) % 256) as u8
 }
 
 // `old` with the first `count` bits of `piece` in place of those from bit `from` on.
-fn spliced(old: u8, from: u32, piece: u8, count: u32) -> u8
+fn spliced(old: u8, from: usize, piece: u8, count: usize) -> u8
     requires { from + count ≤ 8 }
     ensures { bits_in 8 result ≡ paste (bits_in 8 old) from (bits_in 8 piece) count }
 {
-    let word = old as u32;
+    let word = u32::from(old);
     let behind = 8 - from - count;
     let head = word >> (8 - from);
-    let middle = (piece as u32) >> (8 - count);
+    let middle = u32::from(piece) >> (8 - count);
     let tail = word % (1 << behind);
     ((((head << count) | middle) << behind) | tail) as u8
 }

@@ -11,6 +11,11 @@ abbrev pub answer : Result ℕ OverlayFault → Result (Unit {0}) OverlayFault �
 answer (Ok due) = (Ok tt, due)
 answer (Err fault) = (Err fault, 0)
 
+-- whether a test was passed
+abbrev pub tested : {X : Type 0} → Result X OverlayFault → Result (Unit {0}) OverlayFault
+tested (Ok x) = Ok tt
+tested (Err fault) = Err fault
+
 -- each refuses with its own number where its condition holds
 abbrev pub fits : List ℕ → ℕ → Result (Unit {0}) OverlayFault
 fits memory b = cond (unfit memory b) (Err Memory) (Ok tt)

@@ -4,10 +4,11 @@ ghost use Rattle.overlay.specs.Calls.{begin, add as add_of, cut as cut_of, put a
 ghost use Rattle.overlay.specs.Laws.{Opens, Adds, Cuts, Puts, Tags};
 ghost use Rattle.overlay.specs.Views.{state, world, worked, seen, taken, Returned};
 
-use crate::judge::Span;
 use crate::{Answer, Open, OverlayFault, Refused, judge};
+use bits::Bits;
 use block::Block;
 use engine::Engine;
+use std::ops::Range;
 
 impl<E: Engine> Open<E> {
     // An empty overlay over `engine`; a refusal gives the engine back.
@@ -78,11 +79,13 @@ impl<E: Engine> Open<E> {
         judge::fit(memory, self.bits)?;
         judge::enough(edit, count)?;
         judge::room(memory, self.bits as usize + count as usize)?;
-        let Span { from, to } = judge::blocks_between::<E::Block>(self.bits, self.bits + count);
-        let due = (to - from) as u32;
+        let blocks = judge::blocks_between::<E::Block>(self.bits, self.bits + count);
+        let due = (blocks.end - blocks.start) as u32;
         engine::afford(&self.engine, due)?;
         bits::write_bits(memory, self.bits as usize, edit, count as usize);
-        let come = pmac::seal_blocks(&mut self.engine, memory, self.l, from, to)?;
+        let len = (self.bits + count) as usize;
+        let bits = Bits { memory, len };
+        let come = pmac::seal_blocks(&mut self.engine, bits, self.l, blocks)?;
         self.sum = self.sum.xor(come);
         self.bits += count;
         Ok(due)
@@ -92,12 +95,12 @@ impl<E: Engine> Open<E> {
     fn cut_blocks(&mut self, memory: &[u8], count: u32) -> Result<u32, OverlayFault>
         ensures { worked result (world E.Engine.means self.new memory.now []) ≡ cut_of E.Block.Block.arith (world E.Engine.means self.old memory.now []) count }
     {
-        judge::fit(memory, self.bits)?;
+        let bits = judge::fit(memory, self.bits)?;
         judge::within(self.bits, count as usize)?;
-        let Span { from, to } = judge::blocks_between::<E::Block>(self.bits - count, self.bits);
-        let due = (to - from) as u32;
+        let blocks = judge::blocks_between::<E::Block>(self.bits - count, self.bits);
+        let due = (blocks.end - blocks.start) as u32;
         engine::afford(&self.engine, due)?;
-        let gone = pmac::seal_blocks(&mut self.engine, memory, self.l, from, to)?;
+        let gone = pmac::seal_blocks(&mut self.engine, bits, self.l, blocks)?;
         self.sum = self.sum.xor(gone);
         self.bits -= count;
         Ok(due)
@@ -113,15 +116,17 @@ impl<E: Engine> Open<E> {
     ) -> Result<u32, OverlayFault>
         ensures { worked result (world E.Engine.means self.new memory.new []) ≡ put_of E.Block.Block.arith (world E.Engine.means self.old memory.old []) position edit.now count }
     {
-        judge::fit(memory, self.bits)?;
+        let bits = judge::fit(memory, self.bits)?;
         judge::enough(edit, count)?;
         judge::within(self.bits, position as usize + count as usize)?;
-        let Span { from, to } = judge::touched_blocks::<E::Block>(self.bits, position, count);
-        let due = 2 * (to - from) as u32;
+        let Range { start, end } = judge::touched_blocks::<E::Block>(self.bits, position, count);
+        let due = 2 * (end - start) as u32;
         engine::afford(&self.engine, due)?;
-        let old = pmac::seal_blocks(&mut self.engine, memory, self.l, from, to)?;
+        let old = pmac::seal_blocks(&mut self.engine, bits, self.l, start..end)?;
         bits::write_bits(memory, position as usize, edit, count as usize);
-        let new = pmac::seal_blocks(&mut self.engine, memory, self.l, from, to)?;
+        let len = self.bits as usize;
+        let bits = Bits { memory, len };
+        let new = pmac::seal_blocks(&mut self.engine, bits, self.l, start..end)?;
         self.sum = self.sum.xor(old).xor(new);
         Ok(due)
     }
@@ -130,10 +135,10 @@ impl<E: Engine> Open<E> {
     fn write_tag(&mut self, memory: &[u8], buffer: &mut [u8]) -> Result<u32, OverlayFault>
         ensures { worked result (world E.Engine.means self.new memory.now buffer.new) ≡ tag_of E.Block.Block.arith (world E.Engine.means self.old memory.now buffer.old) }
     {
-        judge::fit(memory, self.bits)?;
+        let bits = judge::fit(memory, self.bits)?;
         judge::tag_length::<E::Block>(buffer.len())?;
         engine::afford(&self.engine, 1)?;
-        let last = pmac::ending(memory, self.bits as usize, self.l);
+        let last = pmac::ending(bits, self.l);
         let full = self.engine.encipher(self.sum.xor(last))?;
         judge::write_front(full, buffer);
         Ok(1)

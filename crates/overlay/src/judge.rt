@@ -1,23 +1,22 @@
 // The tests that calls share, each with its refusal, and the blocks that they are about.
-ghost use Rattle.std.specs.Prelude.{◌≡◌, ◌+◌, ◌-◌, ◌*◌, ◌≤◌, true, length, take, is_ok};
+ghost use Rattle.std.specs.Prelude.{◌≡◌, ◌+◌, ◌-◌, ◌*◌, ◌≤◌, true, length, take, is_ok, IfOk};
 ghost use Rattle.block.specs.Arith.{to_bytes};
 ghost use Rattle.bits.specs.Blocks.{blocks};
 ghost use Rattle.pmac.specs.Edits.{touched_from, touched as touched_of};
 ghost use Rattle.overlay.specs.Receiving.{same};
-ghost use Rattle.overlay.specs.Tests.{fits, offers, reaches, leaves, tags, fills, has};
+ghost use Rattle.overlay.specs.Tests.{tested, fits, offers, reaches, leaves, tags, fills, has};
 
 use crate::OverlayFault;
+use bits::Bits;
 use block::Block;
+use std::ops::Range;
 
-// Refusal 2, unless the memory is no larger than allowed and holds `bits` bits.
-pub(crate) fn fit(memory: &[u8], bits: u32) -> Result<(), OverlayFault>
-    ensures { result ≡ fits memory.now bits }
+// The memory's first `bits` bits; refusal 2, unless it is no larger than allowed and holds them.
+pub(crate) fn fit(memory: &[u8], bits: u32) -> Result<Bits<'_>, OverlayFault>
+    ensures test { tested result ≡ fits memory.now bits }
+    ensures bits { IfOk result (λ b. (b.memory.now ≡ memory.now) × (b.len ≡ bits)) }
 {
-    if bits::fits(memory, bits as usize) {
-        Ok(())
-    } else {
-        Err(OverlayFault::Memory)
-    }
+    Bits::new(memory, bits as usize).ok_or(OverlayFault::Memory)
 }
 
 // Refusal 3, unless `count` bits are handed in.
@@ -95,48 +94,39 @@ pub(crate) fn same_bytes(a: &[u8], b: &[u8]) -> bool
     right
 }
 
-// Blocks of a memory, from one up to another.
-#[derive(Clone, Copy)]
-pub(crate) struct Span {
-    pub(crate) from: usize,
-    pub(crate) to: usize,
-}
-
-// From the last block of `low` bits up to the last of `high`, which are no fewer.
-pub(crate) fn blocks_between<B: Block>(low: u32, high: u32) -> Span
+// The blocks from the last of `low` bits up to the last of `high`, which are no fewer.
+pub(crate) fn blocks_between<B: Block>(low: u32, high: u32) -> Range<usize>
     requires ordered { low ≤ high }
     requires small { high ≤ 524288 }
-    ensures from { result.from ≡ blocks B.Block.arith low }
-    ensures to { result.to ≡ blocks B.Block.arith high }
-    ensures some { 1 ≤ result.from }
-    ensures rising { result.from ≤ result.to }
-    ensures few { result.to ≤ 65536 }
-    ensures inside { 8 * ((result.to - 1) * B.Block.arith.size) ≤ high }
+    ensures from { result.start ≡ blocks B.Block.arith low }
+    ensures to { result.end ≡ blocks B.Block.arith high }
+    ensures some { 1 ≤ result.start }
+    ensures rising { result.start ≤ result.end }
+    ensures few { result.end ≤ 65536 }
+    ensures inside { 8 * ((result.end - 1) * B.Block.arith.size) ≤ high }
 {
-    let from = bits::block_count::<B>(low as usize);
-    let to = bits::block_count::<B>(high as usize);
-    Span { from, to }
+    bits::block_count::<B>(low as usize)..bits::block_count::<B>(high as usize)
 }
 
 // The blocks before the last that hold one of `count` bits from `position` on, which stand.
-pub(crate) fn touched_blocks<B: Block>(bits: u32, position: u32, count: u32) -> Span
+pub(crate) fn touched_blocks<B: Block>(bits: u32, position: u32, count: u32) -> Range<usize>
     requires within { position + count ≤ bits }
     requires small { bits ≤ 524288 }
-    ensures from { result.from ≡ touched_from B.Block.arith position }
-    ensures count { result.to - result.from ≡ touched_of B.Block.arith bits position count }
-    ensures some { 1 ≤ result.from }
-    ensures rising { result.from ≤ result.to }
-    ensures few { result.to ≤ 65537 }
-    ensures inside { 8 * ((result.to - 1) * B.Block.arith.size) ≤ bits }
+    ensures from { result.start ≡ touched_from B.Block.arith position }
+    ensures count { result.end - result.start ≡ touched_of B.Block.arith bits position count }
+    ensures some { 1 ≤ result.start }
+    ensures rising { result.start ≤ result.end }
+    ensures few { result.end ≤ 65537 }
+    ensures inside { 8 * ((result.end - 1) * B.Block.arith.size) ≤ bits }
 {
     let width = 8 * B::size();
     let from = position as usize / width + 1;
     if count == 0 {
-        return Span { from, to: from };
+        return from..from;
     }
     let behind = (position as usize + count as usize).div_ceil(width) + 1;
     let to = behind.min(bits::block_count::<B>(bits as usize));
-    Span { from, to }
+    from..to
 }
 
 // Writes the first bytes of a block over `buffer`.

@@ -19,7 +19,7 @@ impl<E: Engine> Received<E> {
         ensures free { result.slip.count ≡ 0 }
     {
         match judge::fit(memory, bits) {
-            Ok(()) => Answer::given(Received { engine, bits }, 0),
+            Ok(_) => Answer::given(Received { engine, bits }, 0),
             Err(fault) => Answer::refused(Refused::new(fault, engine), 0),
         }
     }
@@ -60,11 +60,11 @@ impl<E: Engine> Received<E> {
     fn examine(&mut self, memory: &[u8], tag: &[u8]) -> Result<Examined<E::Block>, OverlayFault>
         ensures { examined E.Engine.means result self.new ≡ check_of E.Block.Block.arith (arrived E.Engine.means self.old) memory.now tag.now }
     {
-        judge::fit(memory, self.bits)?;
+        let bits = judge::fit(memory, self.bits)?;
         judge::tag_length::<E::Block>(tag.len())?;
-        let due = pmac::due::<E::Block>(self.bits as usize);
+        let due = pmac::due::<E::Block>(bits);
         engine::afford(&self.engine, due)?;
-        let sealed = pmac::sealed_bits(&mut self.engine, memory, self.bits as usize)?;
+        let sealed = pmac::sealed_bits(&mut self.engine, bits)?;
         let mut worked = [0u8; 16];
         judge::write_front(sealed.tag, &mut worked[..tag.len()]);
         let right = judge::same_bytes(tag, &worked[..tag.len()]).then_some(sealed);
@@ -87,14 +87,13 @@ impl<E: Engine> Received<E> {
     ) -> Result<u32, OverlayFault>
         ensures { worked result (harbour E.Engine.means self.new memory.new) ≡ recover_of E.Block.Block.arith (harbour E.Engine.means self.old memory.old) tag.now number }
     {
-        judge::fit(memory, self.bits)?;
+        let bits = judge::fit(memory, self.bits)?;
         judge::full_length::<E::Block>(tag.len())?;
         judge::whole_block::<E::Block>(self.bits, number)?;
-        let bits = self.bits as usize;
         let due = pmac::due::<E::Block>(bits);
         engine::afford(&self.engine, due)?;
         let full = E::Block::read(tag);
-        let lost = pmac::lost_block(&mut self.engine, memory, bits, full, number as usize)?;
+        let lost = pmac::lost_block(&mut self.engine, bits, full, number as usize)?;
         bits::write_block(memory, number as usize, lost);
         Ok(due)
     }

@@ -2,6 +2,7 @@
 use Rattle.std.proofs.Common.{◌≡◌, ℕ, zero, suc, ◌+◌, ◌-◌, ◌*◌, ◌/◌, ◌%◌, ◌^◌, ◌<◌, ◌≤◌, cond, sym, refl, ap, ◌∙◌, ap₂, add_assoc, pow-suc, add-one, one-add, arith}
 use lib.Bits.{bit_xor, xor_shr, xor_mod, xor_lt}
 use lib.Count.{count_trailing_zeros, under}
+use Rattle.std.specs.List.{fold, range_with_len}
 use Rattle.std.proofs.lemmas.Nat.{shr-shr}
 use Rattle.block.specs.Bits.{bit}
 use Rattle.block.specs.Arith.{Arith, Laws}
@@ -53,6 +54,12 @@ module _ {B : Type 0} (A : Arith B) where
   unfolding doubled
   doubled_in zero x = refl
   doubled_in (suc j) x = ap A.double (doubled_in j x)
+
+  -- as a fold doubles, over any numbers
+  pub doubled_fold : (x : B) (a n : ℕ) → fold (λ y k. A.double y) x (range_with_len a n) ≡ doubled A n x
+  unfolding doubled
+  doubled_fold x a zero = refl
+  doubled_fold x a (suc n) = doubled_fold (A.double x) (a + 1) n ∙ doubled_in n x
 
 module _ {B : Type 0} {A : Arith B} (w : Laws A) where
   -- the lowest bit, and the rest

@@ -3,6 +3,7 @@ use Rattle.std.proofs.Common.{◌≡◌, ℕ, ◌+◌, ◌-◌, ◌<◌, ◌≤�
 use Rattle.engine.specs.declared.fault.EngineFault.{EngineFault}
 use Rattle.engine.specs.declared.fault.EngineFault.TheVariants.{Spent}
 use Rattle.engine.specs.Meaning.{Meaning, answered, spent}
+use Rattle.pmac.specs.Asking.{Asks}
 
 module _ {B : Type 0} where
   pub ok_same : (x y : B) (r : Result B EngineFault) → r ≡ Ok x → r ≡ Ok y → x ≡ y
@@ -20,6 +21,10 @@ module _ {B : Type 0} where
   spent_on m k after n p q e f h =
       let less : m.left - n - p ≡ m.left - q = omega arith in
       f ∙ ap (spent p) e ∙ ap (λ z. record { enc = m.enc; dec = m.dec; left = z }) less
+
+  -- what a call asks after n operations, told from before them
+  pub asks_on : {Y : Type 0} (m k j : Meaning B) (n p q : ℕ) (x y : Y) (r : Result Y EngineFault) → k ≡ spent n m → Asks k p x r j → q ≡ n + p → x ≡ y → Asks m q y r j
+  asks_on m k j n p q x y r e a h same = record { answer = a.answer ∙ ap Ok same; after = spent_on m k j n p q e a.after h }
 
   -- an operation after n others, where f picks the map that is asked
   module _ (f : Meaning B → B → B) (keeps : (m : Meaning B) (n : ℕ) → f (spent n m) ≡ f m) (m k : Meaning B) (n : ℕ) (b : B) (r : Result B EngineFault)

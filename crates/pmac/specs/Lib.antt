@@ -1,5 +1,6 @@
 pub mod Pmac
 pub mod Stored
+pub mod Asking
 pub mod Sealing
 pub mod Cases
 pub mod Edits

@@ -16,6 +16,7 @@ ghost use Rattle.pmac.specs.Recovery.{Recoveries, PlacesWritten, OneBlock};
 ghost use Rattle.pmac.specs.Stored.{Steps, Sums, Drops};
 ghost use Rattle.pmac.specs.Sealing.{outcome, operations, full_tag};
 
+use bits::Bits;
 use block::Block;
 use engine::Engine;
 pub use fault::TagFault;
@@ -49,16 +50,11 @@ pub fn full_tag<E: Engine>(
     ensures answer { outcome result ≡ full_tag E.Block.Block.arith (E.Engine.means engine.old) memory.now bits }
     ensures after { E.Engine.means engine.new ≡ spent (operations (outcome result)) (E.Engine.means engine.old) }
 {
-    if !bits::fits(memory, bits) {
-        return Err(TagFault::Memory);
-    }
-    let due = seal::due::<E::Block>(bits);
-    engine::afford(engine, due)?;
-    let tag = seal::sealed(engine, memory, bits)?;
-    Ok(FullTag {
-        tag,
-        operations: due,
-    })
+    let bits = Bits::new(memory, bits).ok_or(TagFault::Memory)?;
+    let operations = seal::due::<E::Block>(bits);
+    engine::afford(engine, operations)?;
+    let SealedBits { tag, .. } = seal::sealed_bits(engine, bits)?;
+    Ok(FullTag { tag, operations })
 }
 
 // An offset follows from the one before; the sum of the bits is that of the memory's blocks.

@@ -5,13 +5,10 @@ ghost use Rattle.pmac.specs.Pmac.{doubled as doubled_of, offset as offset_of};
 use block::Block;
 
 // `x` doubled `times` times.
-pub(crate) fn doubled<B: Block>(mut x: B, times: u32) -> B
+pub(crate) fn doubled<B: Block>(x: B, times: u32) -> B
     ensures { result ≡ doubled_of B.Block.arith times x }
 {
-    for _i in 0..times {
-        x = x.double();
-    }
-    x
+    (0..times).fold(x, |x, _| x.double())
 }
 
 // The offset of block `i`, from the bits of its Gray number.

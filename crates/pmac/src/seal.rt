@@ -1,73 +1,55 @@
-// Blocks of the memory under the engine, and the tag that they give.
-ghost use Rattle.std.specs.Prelude.{◌≡◌, ℕ, ◌+◌, ◌-◌, ◌*◌, ◌<◌, ◌≤◌, length, Ok};
+// Blocks of some bits under the engine, and the tag that they give.
+ghost use Rattle.std.specs.Prelude.{◌≡◌, ◌+◌, ◌-◌, ◌*◌, ◌≤◌, length};
 ghost use Rattle.bits.specs.Blocks.{blocks, last as last_of};
-ghost use Rattle.bits.specs.Memory.{standing, held};
-ghost use Rattle.engine.specs.Meaning.{answered, spent};
-ghost use Rattle.pmac.specs.Pmac.{over, ending as ending_of, full as full_of};
+ghost use Rattle.bits.specs.Memory.{content};
+ghost use Rattle.pmac.specs.Asking.{Asks};
+ghost use Rattle.pmac.specs.Pmac.{over, ending as ending_of};
 ghost use Rattle.pmac.specs.Sealing.{sealing};
 ghost use Rattle.pmac.specs.Stored.{stored};
 
 use crate::{SealedBits, offset};
+use bits::{Bits, Last};
 use block::Block;
 use engine::{Engine, EngineFault};
+use std::ops::Range;
 
-// The operations that the full tag of `bits` bits takes.
-pub fn due<B: Block>(bits: usize) -> u32
-    requires { bits ≤ 524288 }
-    ensures { result ≡ blocks B.Block.arith bits + 1 }
+// The operations that the full tag of the bits takes.
+pub fn due<B: Block>(bits: Bits<'_>) -> u32
+    ensures { result ≡ blocks B.Block.arith bits.entry.len + 1 }
 {
-    (bits::block_count::<B>(bits) + 1) as u32
+    (bits::block_count::<B>(bits.len) + 1) as u32
 }
 
-// What the last block of the memory's first `bits` bits adds to the sum.
-pub fn ending<B: Block>(memory: &[u8], bits: usize, l: B) -> B
-    requires { bits ≤ 8 * length memory.now }
-    ensures { result ≡ ending_of B.Block.arith l (last_of B.Block.arith (standing bits memory.now)) }
+// What the last block of the bits adds to the sum.
+pub fn ending<B: Block>(bits: Bits<'_>, l: B) -> B
+    ensures { result ≡ ending_of B.Block.arith l (last_of B.Block.arith (content bits.entry)) }
 {
-    let last = bits::last_block::<B>(memory, bits);
-    if last.whole {
-        last.block.xor(l.halve())
-    } else {
-        last.block
+    match bits.last_block::<B>() {
+        Last::Whole(block) => block.xor(l.halve()),
+        Last::Padded(block) => block,
     }
 }
 
-// Y of block `i` of the memory, under its offset.
-fn seal_block<E: Engine>(
-    engine: &mut E,
-    memory: &[u8],
-    i: usize,
-    offset: E::Block,
-) -> Result<E::Block, EngineFault>
-    requires numbered { 1 ≤ i }
-    requires inside { i * E.Block.Block.arith.size ≤ length memory.now }
-    ensures answer { result ≡ answered (E.Engine.means engine.old).left ((E.Engine.means engine.old).enc (E.Block.Block.arith.plus (held E.Block.Block.arith memory.now i) offset)) }
-    ensures after { E.Engine.means engine.new ≡ spent 1 (E.Engine.means engine.old) }
-{
-    let block: E::Block = bits::block_at(memory, i);
-    engine.encipher(block.xor(offset))
-}
-
-// The sum of Y over the blocks of the memory from `from` up to `to`, where L is `l`.
+// The sum of Y over the blocks of the memory whose numbers are in `range`, where L is `l`.
 pub fn seal_blocks<E: Engine>(
     engine: &mut E,
-    memory: &[u8],
+    bits: Bits<'_>,
     l: E::Block,
-    from: usize,
-    to: usize,
+    range: Range<usize>,
 ) -> Result<E::Block, EngineFault>
-    requires numbered { 1 ≤ from }
-    requires ordered { from ≤ to }
-    requires inside { (to - 1) * E.Block.Block.arith.size ≤ length memory.now }
-    requires afforded { to - from ≤ (E.Engine.means engine.old).left }
-    ensures answer { result ≡ Ok (over E.Block.Block.arith (stored E.Block.Block.arith (E.Engine.means engine.old).enc l memory.now) from (to - from)) }
-    ensures after { E.Engine.means engine.new ≡ spent (to - from) (E.Engine.means engine.old) }
+    requires numbered { 1 ≤ range.start }
+    requires ordered { range.start ≤ range.end }
+    requires inside { (range.end - 1) * E.Block.Block.arith.size ≤ length bits.memory.now }
+    requires afforded { range.end - range.start ≤ (E.Engine.means engine.old).left }
+    ensures { Asks (E.Engine.means engine.old) (range.end - range.start) (over E.Block.Block.arith (stored E.Block.Block.arith (E.Engine.means engine.old).enc l bits.entry.memory.now) range.start (range.end - range.start)) result (E.Engine.means engine.new) }
 {
+    let Range { start, end } = range;
     let mut sum = E::Block::zero();
-    let mut at = offset::offset(l, from - 1);
-    for i in from..to {
+    let mut at = offset::offset(l, start - 1);
+    for i in start..end {
         at = at.xor(offset::doubled(l, i.trailing_zeros()));
-        let y = seal_block(engine, memory, i, at)?;
+        let block: E::Block = bits.block(i);
+        let y = engine.encipher(block.xor(at))?;
         sum = sum.xor(y);
     }
     Ok(sum)
@@ -80,41 +62,22 @@ fn closed<E: Engine>(
     ending: E::Block,
 ) -> Result<E::Block, EngineFault>
     requires { 1 ≤ (E.Engine.means engine.old).left }
-    ensures answer { result ≡ Ok ((E.Engine.means engine.old).enc (E.Block.Block.arith.plus sum ending)) }
-    ensures after { E.Engine.means engine.new ≡ spent 1 (E.Engine.means engine.old) }
+    ensures { Asks (E.Engine.means engine.old) 1 ((E.Engine.means engine.old).enc (E.Block.Block.arith.plus sum ending)) result (E.Engine.means engine.new) }
 {
     engine.encipher(sum.xor(ending))
 }
 
-// L, the sum and the full tag of the memory's first `bits` bits.
+// L, the sum and the full tag of the bits.
 pub fn sealed_bits<E: Engine>(
     engine: &mut E,
-    memory: &[u8],
-    bits: usize,
+    bits: Bits<'_>,
 ) -> Result<SealedBits<E::Block>, EngineFault>
-    requires in_memory { bits ≤ 8 * length memory.now }
-    requires afforded { blocks E.Block.Block.arith bits + 1 ≤ (E.Engine.means engine.old).left }
-    ensures answer { result ≡ Ok (sealing E.Block.Block.arith (E.Engine.means engine.old).enc (standing bits memory.now)) }
-    ensures after { E.Engine.means engine.new ≡ spent (blocks E.Block.Block.arith bits + 1) (E.Engine.means engine.old) }
+    requires { blocks E.Block.Block.arith bits.len + 1 ≤ (E.Engine.means engine.old).left }
+    ensures { Asks (E.Engine.means engine.old) (blocks E.Block.Block.arith bits.entry.len + 1) (sealing E.Block.Block.arith (E.Engine.means engine.old).enc (content bits.entry)) result (E.Engine.means engine.new) }
 {
     let l = engine.encipher(E::Block::zero())?;
-    let count = bits::block_count::<E::Block>(bits);
-    let sum = seal_blocks(engine, memory, l, 1, count)?;
-    let tag = closed(engine, sum, ending(memory, bits, l))?;
+    let count = bits::block_count::<E::Block>(bits.len);
+    let sum = seal_blocks(engine, bits, l, 1..count)?;
+    let tag = closed(engine, sum, ending(bits, l))?;
     Ok(SealedBits { l, sum, tag })
-}
-
-// The full tag of the memory's first `bits` bits.
-pub(crate) fn sealed<E: Engine>(
-    engine: &mut E,
-    memory: &[u8],
-    bits: usize,
-) -> Result<E::Block, EngineFault>
-    requires in_memory { bits ≤ 8 * length memory.now }
-    requires afforded { blocks E.Block.Block.arith bits + 1 ≤ (E.Engine.means engine.old).left }
-    ensures answer { result ≡ Ok (full_of E.Block.Block.arith (E.Engine.means engine.old).enc (standing bits memory.now)) }
-    ensures after { E.Engine.means engine.new ≡ spent (blocks E.Block.Block.arith bits + 1) (E.Engine.means engine.old) }
-{
-    let parts = sealed_bits(engine, memory, bits)?;
-    Ok(parts.tag)
 }

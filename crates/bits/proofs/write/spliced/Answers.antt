@@ -1,4 +1,5 @@
-use Rattle.std.proofs.Common.{◌-◌, ap, ◌∙◌, arith}
+use Rattle.std.proofs.Common.{◌-◌, ap, ◌∙◌, ap₂, arith}
+use lib.Seq.{paste}
 use Rattle.block.specs.Bits.{bits}
 use Rattle.bits.proofs.Writing.{word_is, word_lt, word_bits}
 use Rattle.bits.proofs.write.spliced.Goals as goal
@@ -6,12 +7,15 @@ use Rattle.bits.proofs.write.spliced.Goals as goal
 pub returns : goal.returns
 returns c =
     let t = 8 - c.args.from - c.args.count in
-    ap (bits 8) (word_is c.args.old c.args.piece c.args.from c.args.count t (omega arith) (omega arith) (omega arith))
-    ∙ word_bits c.args.old c.args.piece c.args.from c.args.count t (omega arith) (omega arith) (omega arith)
+    let old = c.from-word.result in
+    let piece = c.from.result in
+    ap (bits 8) (word_is old piece c.args.from c.args.count t (omega arith) (omega arith) (omega arith))
+    ∙ word_bits old piece c.args.from c.args.count t (omega arith) (omega arith) (omega arith)
+    ∙ ap₂ (λ x y. paste (bits 8 x) c.args.from (bits 8 y) c.args.count) c.from-word.ensures c.from.ensures
 
-pub overflow_cast-result : goal.overflow_cast-result
-overflow_cast-result c =
+pub overflow_cast-result-3 : goal.overflow_cast-result-3
+overflow_cast-result-3 c =
     let t = 8 - c.args.from - c.args.count in
-    let e = word_is c.args.old c.args.piece c.args.from c.args.count t (omega arith) (omega arith) (omega arith) in
-    let h = word_lt c.args.old c.args.piece c.args.from c.args.count t (omega arith) (omega arith) (omega arith) in
+    let e = word_is c.from-word.result c.from.result c.args.from c.args.count t (omega arith) (omega arith) (omega arith) in
+    let h = word_lt c.from-word.result c.from.result c.args.from c.args.count t (omega arith) (omega arith) (omega arith) in
     omega arith

@@ -1,8 +1,8 @@
-use Rattle.std.proofs.Common.{◌≡◌, ◌+◌, ◌-◌, Ok, refl, ap, ◌∙◌, ap₂, arith}
+use Rattle.std.proofs.Common.{◌≡◌, ◌+◌, ◌-◌, refl, ap, ◌∙◌, ap₂, arith}
 use Rattle.bits.specs.Blocks.{blocks}
 use Rattle.pmac.specs.Pmac.{over}
 use Rattle.pmac.specs.Stored.{stored}
-use Rattle.pmac.proofs.Spending.{ok_same, spent_on}
+use Rattle.pmac.proofs.Spending.{ok_same, spent_on, asks_on}
 use Rattle.pmac.proofs.Sums.{in_memory}
 use Rattle.pmac.proofs.Recovery.{inner_found}
 use Rattle.pmac.proofs.lost.inner_block.Goals as goal
@@ -12,7 +12,7 @@ seal_blocks-requires g c =
     record {
       numbered = omega arith;
       ordered = omega arith;
-      inside = in_memory g.met.E.Block.Block.laws c.args.memory.now c.args.bits c.args.i (omega arith) (omega arith);
+      inside = in_memory g.met.E.Block.Block.laws c.args.loss.bits.memory.now c.args.loss.bits.len c.args.i (omega arith) (omega arith);
       afforded = omega arith;
     }
 
@@ -22,13 +22,12 @@ seal_blocks-requires-2 g c =
     record {
       numbered = omega arith;
       ordered = omega arith;
-      inside = in_memory g.met.E.Block.Block.laws c.args.memory.now c.args.bits c.block_count-count.result (omega arith) (omega arith);
+      inside = in_memory g.met.E.Block.Block.laws c.args.loss.bits.memory.now c.args.loss.bits.len c.block_count-count.result (omega arith) (omega arith);
       afforded = omega arith;
     }
 
 pub unmasked-requires : goal.unmasked-requires
 unmasked-requires g c =
-    let m = g.E.Engine.means c.args.engine.now in
     let first = ap (λ z. z.left) c.seal_blocks.ensures.after in
     let second = ap (λ z. z.left) c.seal_blocks-2.ensures.after in
     omega arith
@@ -38,10 +37,10 @@ returns g c =
     let A = g.E.Block.Block.arith in
     let w = g.met.E.Block.Block.laws in
     let m = g.E.Engine.means c.args.engine.now in
-    let k = blocks A c.args.bits in
+    let k = blocks A c.args.loss.bits.len in
     let i = c.args.i in
-    let l = c.args.l in
-    let memory = c.args.memory.now in
+    let l = c.args.loss.l in
+    let memory = c.args.loss.bits.memory.now in
     let count = c.block_count-count.ensures in
     let first = c.seal_blocks.ensures.after in
     let all : k - 2 ≡ i - 1 + (c.block_count-count.result - (i + 1)) = omega arith in
@@ -52,9 +51,8 @@ returns g c =
     ok_same c.in_ok-behind.behind _ c.seal_blocks-2.result c.in_ok-behind.was c.seal_blocks-2.ensures.answer
     ∙ ap₂ (λ f n. over A (stored A f l memory) (i + 1) (n - (i + 1))) (ap (λ z. z.enc) first) count in
     let y = c.xor-y.result in
-    record {
-      answer = c.unmasked.ensures.answer ∙ ap Ok (ap (λ z. A.plus (z.dec y) c.offset.result) second ∙ inner_found w m.enc memory c.args.bits (omega arith) m.dec l c.args.opened i (omega arith) (omega arith)
-          c.ending-ending.result c.in_ok-before.before c.in_ok-behind.behind y (m.dec y) c.offset.result
-          c.ending-ending.ensures before_is behind_is (c.xor-y.ensures ∙ ap₂ A.plus c.xor.ensures c.xor-2.ensures) refl c.offset.ensures);
-      after = spent_on m (g.E.Engine.means c.seal_blocks-2.new.engine) (g.E.Engine.means c.unmasked.new.engine) (k - 2) 1 (k - 1) second c.unmasked.ensures.after (omega arith);
-    }
+    let here = inner_found w m.enc memory c.args.loss.bits.len (omega arith) m.dec l c.args.loss.opened i (omega arith) (omega arith)
+    c.ending-ending.result c.in_ok-before.before c.in_ok-behind.behind y (m.dec y) c.offset.result
+    c.ending-ending.ensures before_is behind_is (c.xor-y.ensures ∙ ap₂ A.plus c.xor.ensures c.xor-2.ensures) refl c.offset.ensures in
+    asks_on m (g.E.Engine.means c.seal_blocks-2.new.engine) (g.E.Engine.means c.unmasked.new.engine) (k - 2) 1 (k - 1) _ _ c.unmasked.result second c.unmasked.ensures (omega arith)
+    (ap (λ z. A.plus (z.dec y) c.offset.result) second ∙ here)

@@ -12,11 +12,11 @@ use Rattle.pmac.proofs.lost.last_block.Goals as goal
 pub seal_blocks-requires : goal.seal_blocks-requires
 seal_blocks-requires g c =
     let w = g.met.E.Block.Block.laws in
-    let some = blocks_some w c.args.bits in
+    let some = blocks_some w c.args.loss.bits.len in
     record {
       numbered = omega arith;
       ordered = omega arith;
-      inside = in_memory w c.args.memory.now c.args.bits c.block_count-count.result (omega arith) (omega arith);
+      inside = in_memory w c.args.loss.bits.memory.now c.args.loss.bits.len c.block_count-count.result (omega arith) (omega arith);
       afforded = omega arith;
     }
 
@@ -25,11 +25,11 @@ returns g c =
     let A = g.E.Block.Block.arith in
     let w = g.met.E.Block.Block.laws in
     let m = g.E.Engine.means c.args.engine.now in
-    let l = c.args.l in
+    let l = c.args.loss.l in
     let count = c.block_count-count.ensures in
-    let sum_is : c.in_ok-sum.sum ≡ over A (stored A m.enc l c.args.memory.now) 1 (blocks A c.args.bits - 1) =
-    ok_same c.in_ok-sum.sum _ c.seal_blocks.result c.in_ok-sum.was c.seal_blocks.ensures.answer ∙ ap (λ n. over A (stored A m.enc l c.args.memory.now) 1 (n - 1)) count in
+    let sum_is : c.in_ok-sum.sum ≡ over A (stored A m.enc l c.args.loss.bits.memory.now) 1 (blocks A c.args.loss.bits.len - 1) =
+    ok_same c.in_ok-sum.sum _ c.seal_blocks.result c.in_ok-sum.was c.seal_blocks.ensures.answer ∙ ap (λ n. over A (stored A m.enc l c.args.loss.bits.memory.now) 1 (n - 1)) count in
     record {
-      answer = let e = last_found w m.enc c.args.memory.now c.args.bits (omega arith) l c.args.opened c.in_ok-sum.sum sum_is in cc;
+      answer = let e = last_found w m.enc c.args.loss.bits.memory.now c.args.loss.bits.len (omega arith) l c.args.loss.opened c.in_ok-sum.sum sum_is in cc;
       after = c.seal_blocks.ensures.after ∙ ap (λ n. spent (n - 1) m) count;
     }

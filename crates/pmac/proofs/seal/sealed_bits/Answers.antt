@@ -11,18 +11,17 @@ pub seal_blocks-requires : goal.seal_blocks-requires
 seal_blocks-requires g c =
     let A = g.E.Block.Block.arith in
     let w = g.met.E.Block.Block.laws in
-    let some = blocks_some w c.args.bits in
-    let e : (c.block_count-count.result - 1) * A.size ≡ (blocks A c.args.bits - 1) * A.size = ap (λ m. (m - 1) * A.size) c.block_count-count.ensures in
+    let b = c.args.bits.len in
+    let some = blocks_some w b in
+    let e : (c.block_count-count.result - 1) * A.size ≡ (blocks A b - 1) * A.size = ap (λ m. (m - 1) * A.size) c.block_count-count.ensures in
     let left : (g.E.Engine.means c.encipher.new.self).left ≡ (g.E.Engine.means c.args.engine.now).left - 1 = ap (λ m. m.left) c.encipher.ensures.after in
-    record { numbered = omega arith; ordered = omega arith; inside = omega (arith, blocks_before w c.args.bits); afforded = omega arith }
+    record { numbered = omega arith; ordered = omega arith; inside = omega (arith, blocks_before w b); afforded = omega arith }
 
 pub closed-requires : goal.closed-requires
 closed-requires g c =
-    let m = g.E.Engine.means c.args.engine.now in
-    let k = blocks g.E.Block.Block.arith c.args.bits in
-    let count : k ≡ 1 + (c.block_count-count.result - 1) = let e = c.block_count-count.ensures in omega (arith, blocks_some g.met.E.Block.Block.laws c.args.bits) in
-    let middle = spent_on m (g.E.Engine.means c.encipher.new.self) (g.E.Engine.means c.seal_blocks.new.engine) 1 (c.block_count-count.result - 1) k c.encipher.ensures.after c.seal_blocks.ensures.after count in
-    let left : (g.E.Engine.means c.seal_blocks.new.engine).left ≡ m.left - k = ap (λ z. z.left) middle in
+    let some = blocks_some g.met.E.Block.Block.laws c.args.bits.len in
+    let first = ap (λ z. z.left) c.encipher.ensures.after in
+    let second = ap (λ z. z.left) c.seal_blocks.ensures.after in
     omega arith
 
 pub returns : goal.returns
@@ -30,21 +29,24 @@ returns g c =
     let A = g.E.Block.Block.arith in
     let w = g.met.E.Block.Block.laws in
     let m = g.E.Engine.means c.args.engine.now in
-    let k = blocks A c.args.bits in
-    let some = blocks_some w c.args.bits in
-    let memory = c.args.memory.now in
+    let b = c.args.bits.len in
+    let k = blocks A b in
+    let some = blocks_some w b in
+    let memory = c.args.bits.memory.now in
     let l = c.in_ok-l.l in
     let none : m ≡ _ = spent_none m 0 refl in
     let l_is : l ≡ m.enc A.zero = asked_ok (λ z. z.enc) (λ _ _. refl) m m 0 c.zero.result c.encipher.result none (omega arith) c.encipher.ensures.answer l c.in_ok-l.was ∙ ap m.enc c.zero.ensures in
     let first = c.encipher.ensures.after in
     let count : k ≡ 1 + (c.block_count-count.result - 1) = let e = c.block_count-count.ensures in omega arith in
-    let middle = spent_on m (g.E.Engine.means c.encipher.new.self) (g.E.Engine.means c.seal_blocks.new.engine) 1 (c.block_count-count.result - 1) k first c.seal_blocks.ensures.after count in
+    let j = g.E.Engine.means c.seal_blocks.new.engine in
+    let middle = spent_on m (g.E.Engine.means c.encipher.new.self) j 1 (c.block_count-count.result - 1) k first c.seal_blocks.ensures.after count in
     let sum_is : c.in_ok-sum.sum ≡ over A (stored A m.enc l memory) 1 (k - 1) =
     ok_same c.in_ok-sum.sum _ c.seal_blocks.result c.in_ok-sum.was c.seal_blocks.ensures.answer
     ∙ ap₂ (λ f n. over A (stored A f l memory) 1 (n - 1)) (ap (λ z. z.enc) first) c.block_count-count.ensures in
-    let tag_is : c.in_ok-tag.tag ≡ m.enc (A.plus c.in_ok-sum.sum c.ending.result) =
-    ok_same c.in_ok-tag.tag _ c.closed.result c.in_ok-tag.was c.closed.ensures.answer ∙ ap (λ z. z.enc (A.plus c.in_ok-sum.sum c.ending.result)) middle in
+    let sum = c.in_ok-sum.sum in
+    let tag_is : c.in_ok-tag.tag ≡ m.enc (A.plus sum c.ending.result) =
+    ok_same c.in_ok-tag.tag _ c.closed.result c.in_ok-tag.was c.closed.ensures.answer ∙ ap (λ z. z.enc (A.plus sum c.ending.result)) middle in
     record {
-      answer = ap Ok (sealing_made w m.enc memory c.args.bits (omega arith) l c.in_ok-sum.sum c.ending.result c.in_ok-tag.tag l_is sum_is c.ending.ensures tag_is);
-      after = spent_on m (g.E.Engine.means c.seal_blocks.new.engine) (g.E.Engine.means c.closed.new.engine) k 1 (k + 1) middle c.closed.ensures.after refl;
+      answer = ap Ok (sealing_made w m.enc memory b (omega arith) l sum c.ending.result c.in_ok-tag.tag l_is sum_is c.ending.ensures tag_is);
+      after = spent_on m j (g.E.Engine.means c.closed.new.engine) k 1 (k + 1) middle c.closed.ensures.after refl;
     }
