@@ -2,11 +2,14 @@
 use Rattle.std.specs.Prelude.{ℕ}
 use Rattle.block.specs.Blocks.{make64, arith64}
 use Rattle.block.specs.declared.block64.Block64.{Block64}
-use Rattle.engine.specs.Meaning.{Meaning}
+use Rattle.engine.specs.Meaning.{Maps, Meaning, metered}
 
 -- every bit flipped
 abbrev pub flipped : Block64 → Block64
 flipped x = arith64.plus x (make64 0xFFFFFFFFFFFFFFFF)
 
+abbrev pub flipping : Maps Block64
+flipping = record { enc = flipped; dec = flipped }
+
 abbrev pub complement : ℕ → Meaning Block64
-complement left = record { enc = flipped; dec = flipped; left = left }
+complement left = metered flipping left

@@ -3,10 +3,19 @@ use Rattle.std.specs.Prelude.{◌≡◌, ℕ, ◌-◌, cond, Ok, Err, Result, na
 use Rattle.engine.specs.declared.fault.EngineFault.{EngineFault}
 use Rattle.engine.specs.declared.fault.EngineFault.TheVariants.{Spent}
 
+-- the two maps of a cipher
+pub record Maps (B : Type 0) : Type 0 where
+  pub enc : B → B
+  pub dec : B → B
+
 pub record Meaning (B : Type 0) : Type 0 where
   pub enc : B → B
   pub dec : B → B
   pub left : ℕ
+
+-- a cipher with so many operations left
+abbrev pub metered : {B : Type 0} → Maps B → ℕ → Meaning B
+metered m left = record { enc = m.enc; dec = m.dec; left = left }
 
 pub record Undoes {B : Type 0} (m : Meaning B) : Type 0 where
   pub dec_enc : (x : B) → m.dec (m.enc x) ≡ x

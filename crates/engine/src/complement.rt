@@ -1,27 +1,24 @@
 // The engine that flips every bit, both ways.
-ghost use Rattle.std.specs.Prelude.{◌≡◌, ◌-◌};
-ghost use Rattle.engine.specs.Meaning.{answered};
-ghost use Rattle.engine.specs.Complement.{flipped, complement};
+ghost use Rattle.std.specs.Prelude.{◌≡◌};
+ghost use Rattle.engine.specs.Complement.{flipped, flipping, complement};
 ghost use Rattle.block.specs.Blocks.{make64};
 ghost use Rattle.block.specs.Same.{laws64};
 ghost use Rattle.block.proofs.Group.{twice};
-ghost use Rattle.std.proofs.Common.{rules};
 
-use crate::{Allowance, Engine, EngineFault};
+use crate::{Cipher, Metered};
 use block::{Block, Block64};
 
+// The cipher that flips all bits of a block.
 #[derive(Drop)]
-pub struct Complement {
-    allowance: Allowance,
-}
+pub struct AllBits;
 
-impl Complement {
+pub type Complement = Metered<AllBits>;
+
+impl Metered<AllBits> {
     pub fn new(left: u32) -> Self
         ensures { result.allowance.left ≡ left }
     {
-        Complement {
-            allowance: Allowance::new(left),
-        }
+        Metered::of(AllBits, left)
     }
 }
 
@@ -31,26 +28,18 @@ fn flip(block: Block64) -> Block64
     block.xor(Block64::new(u64::MAX))
 }
 
-impl Engine for Complement {
+impl Cipher for AllBits {
     type Block = Block64;
 
-    ghost means = { λ e. complement e.allowance.left };
+    ghost maps = { λ _. flipping };
 
-    ghost undoes = { λ e. record { dec_enc = λ x. twice laws64 x (make64 0xFFFFFFFFFFFFFFFF); enc_dec = λ x. twice laws64 x (make64 0xFFFFFFFFFFFFFFFF) } };
+    ghost undoes = { λ _ left. record { dec_enc = λ x. twice laws64 x (make64 0xFFFFFFFFFFFFFFFF); enc_dec = λ x. twice laws64 x (make64 0xFFFFFFFFFFFFFFFF) } };
 
-    ghost bounded = { Prim.search rules };
-
-    fn left(&self) -> u32 {
-        self.allowance.left()
+    fn encipher(&self, block: Block64) -> Block64 {
+        flip(block)
     }
 
-    fn encipher(&mut self, block: Block64) -> Result<Block64, EngineFault> {
-        self.allowance.spend()?;
-        Ok(flip(block))
-    }
-
-    fn decipher(&mut self, block: Block64) -> Result<Block64, EngineFault> {
-        self.allowance.spend()?;
-        Ok(flip(block))
+    fn decipher(&self, block: Block64) -> Block64 {
+        flip(block)
     }
 }

@@ -7,6 +7,7 @@ mod cascade;
 mod complement;
 mod fault;
 mod mask;
+mod metered;
 mod pile;
 mod refusal;
 
@@ -18,9 +19,10 @@ pub use allowance::Allowance;
 use block::Block;
 pub use cap::Cap;
 pub use cascade::Cascade;
-pub use complement::Complement;
+pub use complement::{AllBits, Complement};
 pub use fault::{EngineFault, KeyFault};
 pub use mask::Mask;
+pub use metered::{Cipher, KeyedCipher, Metered};
 pub use pile::{Pile, pile_up};
 
 // A block cipher under one key, with a number of operations that it may still be asked for.
