@@ -54,5 +54,5 @@ returns g c =
     let here = inner_found w m.enc memory c.args.loss.bits.len (omega arith) m.dec l c.args.loss.opened i (omega arith) (omega arith)
     c.ending-ending.result c.in_ok-before.before c.in_ok-behind.behind y (m.dec y) c.offset.result
     c.ending-ending.ensures before_is behind_is (c.xor-y.ensures ∙ ap₂ A.plus c.xor.ensures c.xor-2.ensures) refl c.offset.ensures in
-    asks_on m (g.E.Engine.means c.seal_blocks-2.new.engine) (g.E.Engine.means c.unmasked.new.engine) (k - 2) 1 (k - 1) _ _ c.unmasked.result second c.unmasked.ensures (omega arith)
+    asks_on (k - 2) 1 (k - 1) second c.unmasked.ensures (omega arith)
     (ap (λ z. A.plus (z.dec y) c.offset.result) second ∙ here)
