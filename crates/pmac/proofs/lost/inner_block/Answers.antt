@@ -7,30 +7,12 @@ use Rattle.pmac.proofs.Sums.{in_memory}
 use Rattle.pmac.proofs.Recovery.{inner_found}
 use Rattle.pmac.proofs.lost.inner_block.Goals as goal
 
-pub seal_blocks-requires : goal.seal_blocks-requires
-seal_blocks-requires g c =
-    record {
-      numbered = omega arith;
-      ordered = omega arith;
-      inside = in_memory g.met.E.Block.Block.laws c.args.loss.bits.memory.now c.args.loss.bits.len c.args.i (omega arith) (omega arith);
-      afforded = omega arith;
-    }
+pub seal_blocks-requires-clause-inside : goal.seal_blocks-requires-clause-inside
+seal_blocks-requires-clause-inside g c = in_memory g.met.E.Block.Block.laws c.args.loss.bits.memory.now c.args.loss.bits.len c.args.i (omega arith) (omega arith)
 
-pub seal_blocks-requires-2 : goal.seal_blocks-requires-2
-seal_blocks-requires-2 g c =
-    let left = ap (λ z. z.left) c.seal_blocks.ensures.after in
-    record {
-      numbered = omega arith;
-      ordered = omega arith;
-      inside = in_memory g.met.E.Block.Block.laws c.args.loss.bits.memory.now c.args.loss.bits.len c.block_count-count.result (omega arith) (omega arith);
-      afforded = omega arith;
-    }
-
-pub unmasked-requires : goal.unmasked-requires
-unmasked-requires g c =
-    let first = ap (λ z. z.left) c.seal_blocks.ensures.after in
-    let second = ap (λ z. z.left) c.seal_blocks-2.ensures.after in
-    omega arith
+pub seal_blocks-requires-2-clause-inside : goal.seal_blocks-requires-2-clause-inside
+seal_blocks-requires-2-clause-inside g c =
+    in_memory g.met.E.Block.Block.laws c.args.loss.bits.memory.now c.args.loss.bits.len c.block_count-count.result (omega arith) (omega arith)
 
 pub returns : goal.returns
 returns g c =
