@@ -15,7 +15,7 @@ with_one x =
     let e : max (x % 2) 1 ≡ 1 = omega arith in
     or_step x 1 ∙ ap₂ (λ y z. y * 2 + z) (or_zero_r (x / 2)) e
 
-bits_shifted : (j k x : ℕ) → bits (j + k) (x * 2 ^ k) ≡ bits j x ++ replicate k false
+pub bits_shifted : (j k x : ℕ) → bits (j + k) (x * 2 ^ k) ≡ bits j x ++ replicate k false
 bits_shifted j k x =
     bits_append j k (x * 2 ^ k)
     ∙ ap₂ ◌++◌ (ap (bits j) (shl-shr x k)) (sym (bits_mod k (x * 2 ^ k)) ∙ ap (bits k) (mul-mod_left x (2 ^ k)) ∙ bits_zero k)
