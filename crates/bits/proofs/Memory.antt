@@ -9,7 +9,6 @@ use Rattle.bits.specs.Memory.{standing, held, closing}
 use Rattle.bits.specs.declared.Last.TheVariants.{Whole, Padded}
 use Rattle.bits.proofs.Counts.{blocks_inner, blocks_before, blocks_left}
 use Rattle.bits.proofs.Parts.{start_next}
-use Rattle.bits.proofs.Padding.{padded_whole}
 
 module _ {B : Type 0} (A : Arith B) where
   -- a block of the bits is a block of the bytes
@@ -68,18 +67,15 @@ module _ {B : Type 0} {A : Arith B} (w : Laws A) where
       ends_short x short e =
           let k = long in
           let end = last A (standing b memory) in
-          let y = A.pack (padded A end) in
           ap Padded (e ∙ ap (λ z. A.pack (padded A (take (b - 8 * at) (bits_of z)))) tail ∙ ap (λ z. A.pack (padded A z)) (sym the_last))
-          ∙ ap (λ t. cond t (Whole y) (Padded y)) (sym (ne_eqb (length end) (width A) (λ q. let n = ap length the_last in omega arith)))
+          ∙ ap (λ t. cond t (Whole (A.pack end)) (Padded (A.pack (padded A end)))) (sym (ne_eqb (length end) (width A) (λ q. let n = ap length the_last in omega arith)))
 
       pub ends_whole : (s : ℕ) (x : B) → s ≡ A.size → width A ≤ b - 8 * at → x ≡ A.pack (bits_of (take s (take (length memory - at) (drop at memory)))) → Whole x ≡ closing A (standing b memory)
       ends_whole s x es whole e =
           let k = long in let d = length-drop at memory in
           let end = last A (standing b memory) in
-          let y = A.pack (padded A end) in
           let n : 8 * A.size ≡ b - 8 * at = omega arith in
-          let full : length end ≡ width A = ap length the_last ∙ (omega arith) in
           ap Whole
           (e ∙ ap₂ (λ z y. A.pack (bits_of (take z y))) es tail
-          ∙ ap A.pack (sym (take_bits_of A.size (drop at memory) (omega arith)) ∙ ap (λ z. take z (bits_of (drop at memory))) n ∙ sym the_last ∙ sym (padded_whole A end full)))
-          ∙ ap (λ t. cond t (Whole y) (Padded y)) (sym (eq-eqb (length end) (width A) full))
+          ∙ ap A.pack (sym (take_bits_of A.size (drop at memory) (omega arith)) ∙ ap (λ z. take z (bits_of (drop at memory))) n ∙ sym the_last))
+          ∙ ap (λ t. cond t (Whole (A.pack end)) (Padded (A.pack (padded A end)))) (sym (eq-eqb (length end) (width A) (ap length the_last ∙ (omega arith))))

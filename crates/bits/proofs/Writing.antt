@@ -1,5 +1,5 @@
 -- Bits written into a memory, a byte at a time. Assumes nothing.
-use Rattle.std.proofs.Common.{◌≡◌, ℕ, suc, ◌+◌, ◌-◌, ◌*◌, ◌/◌, ◌%◌, ◌^◌, ◌<◌, ◌≤◌, Bool, ◌⊎◌, List, ◌∷◌, ◌++◌, length, get_or, take, drop, set, sym, ap, ◌∙◌, subst, ap₂, inl, inr, arith, drop-cons, take-add}
+use Rattle.std.proofs.Common.{◌≡◌, ℕ, suc, ◌+◌, ◌-◌, ◌*◌, ◌/◌, ◌%◌, ◌^◌, ◌<◌, ◌≤◌, Bool, false, ◌⊎◌, List, ◌∷◌, ◌++◌, length, get_or, take, drop, set, replicate, sym, ap, ◌∙◌, subst, ap₂, inl, inr, arith, drop-cons, take-add}
 use lib.Seq.{paste, take-append-add, drop-append-add}
 use lib.Bits.{bit_or}
 use lib.Arith.{digits_lt}
@@ -9,6 +9,7 @@ use Rattle.std.proofs.lemmas.Bool.{cases_lt}
 use Rattle.std.proofs.lemmas.List.Edits.{paste-paste}
 use Rattle.block.specs.Bits.{bits, bits_of}
 use Rattle.block.specs.BitsLemmas.{length_bits, bits_append, take_bits, bits_mod, length_bits_of, bits_of_append, bits_of_cons, take_bits_of, drop_bits, drop_bits_of}
+use Rattle.bits.proofs.Padding.{bits_shifted}
 
 -- ---- numbers
 pub bits_join : (j k hi lo : ℕ) → lo < 2 ^ k → bits (j + k) (hi * 2 ^ k + lo) ≡ bits j hi ++ bits k lo
@@ -127,14 +128,20 @@ module _ (xs : List ℕ) (q : ℕ) (h : q < 8 * length xs) where
           ap (take c) (skip (bits 8 y)) ∙ take-append-le c (drop (q % 8) (bits 8 x)) (bits 8 y) short
           ∙ sym (ap (take c) (skip (bits_of (drop (q / 8 + 1) xs))) ∙ take-append-le c (drop (q % 8) (bits 8 x)) (bits_of (drop (q / 8 + 1) xs)) short)
 
+  -- two bytes moved up, so that bit q stands highest: the high byte
   pub window_bits : (y w c : ℕ) → y ≡ get_or xs (q / 8 + 1) 0 → y < 256 → w ≡ get_or xs (q / 8) 0 * 256 + y → c ≤ 8 → q + c ≤ 8 * length xs
-      → take c (bits 8 (w / 2 ^ (8 - q % 8) % 256)) ≡ take c (drop q (bits_of xs))
+      → take c (bits 8 (w * 2 ^ (q % 8) % 2 ^ 16 / 256 % 256)) ≡ take c (drop q (bits_of xs))
   window_bits y w c e small ew s fits =
-      let n : q % 8 + (8 + (8 - q % 8)) ≡ 16 = omega arith in
-      let eight : take 8 (bits (8 + (8 - q % 8)) w) ≡ bits 8 (w / 2 ^ (8 - q % 8)) = take_bits 8 (8 - q % 8) w in
-      let rest : drop (q % 8) (bits 16 w) ≡ bits (8 + (8 - q % 8)) w = ap (λ z. drop (q % 8) (bits z w)) (sym n) ∙ drop_bits (q % 8) (8 + (8 - q % 8)) w in
-      ap (take c) (bits_mod 8 (w / 2 ^ (8 - q % 8)) ∙ sym eight) ∙ take-take c 8 (bits (8 + (8 - q % 8)) w) s
-      ∙ ap (take c) (sym rest ∙ ap (λ z. drop (q % 8) (bits 16 z)) ew ∙ ap (drop (q % 8)) (bits_join 8 8 (get_or xs (q / 8) 0) y small))
+      let k = q % 8 in
+      let r = 8 + (8 - k) in
+      let v = w * 2 ^ k % 2 ^ 16 in
+      let n : k + r ≡ 16 = omega arith in
+      let up : bits 16 v ≡ bits r w ++ replicate k false = bits_mod 16 (w * 2 ^ k) ∙ ap (λ z. bits z (w * 2 ^ k)) (let m : 16 ≡ r + k = omega arith in m) ∙ bits_shifted r k w in
+      let high : bits 8 (v / 256 % 256) ≡ take 8 (bits r w) =
+      bits_mod 8 (v / 256) ∙ sym (take_bits 8 8 v) ∙ ap (take 8) up ∙ take-append-le 8 (bits r w) (replicate k false) (let l = length_bits r w in omega arith) in
+      let rest : drop k (bits 16 w) ≡ bits r w = ap (λ z. drop k (bits z w)) (sym n) ∙ drop_bits k r w in
+      ap (take c) high ∙ take-take c 8 (bits r w) s
+      ∙ ap (take c) (sym rest ∙ ap (λ z. drop k (bits 16 z)) ew ∙ ap (drop k) (bits_join 8 8 (get_or xs (q / 8) 0) y small))
       ∙ two y c e s fits ∙ ap (take c) (sym behind)
 
 -- one turn of the loop

@@ -33,6 +33,6 @@ module _ {B : Type 0} (A : Arith B) where
   unfoldable pub replaced : List ℕ → ℕ → B → List ℕ
   replaced memory i x = paste memory ((i - 1) * A.size) (to_bytes A x) A.size
 
-  -- the last block of some bits, padded where it is short, and whether it is whole
+  -- the last block of some bits, padded where it is short
   abbrev pub closing : List Bool → Last B
-  closing bs = let x = A.pack (padded A (last A bs)) in cond (whole A (last A bs)) (Whole x) (Padded x)
+  closing bs = let end = last A bs in cond (whole A end) (Whole (A.pack end)) (Padded (A.pack (padded A end)))

@@ -69,7 +69,8 @@ fn window(edit: &[u8], from: usize) -> u8
     let k = from / 8;
     let next = edit.get(k + 1).copied().unwrap_or(0);
     let both = u16::from_be_bytes([edit[k], next]);
-    ((both >> (8 - from % 8)) % 256) as u8
+    let [piece, _] = (both << (from % 8)).to_be_bytes();
+    piece
 }
 
 // `old` with the first `count` bits of `piece` in place of those from bit `from` on.

@@ -2,7 +2,7 @@
 use Rattle.std.proofs.Common.{◌≡◌, ℕ, zero, suc, ◌+◌, ◌-◌, ◌<◌, ◌≤◌, sym, refl, ap, ◌∙◌, ap₂, add-zero, add_assoc, add-suc, arith}
 use Rattle.block.specs.Arith.{Arith, Laws}
 use Rattle.pmac.specs.Pmac.{over}
-use Rattle.block.proofs.Group.{assoc, comm, left_comm, cancel, self, zero_r, zero_l}
+use Rattle.block.proofs.Group.{assoc, comm, cancel, zero_r, zero_l}
 
 module _ {B : Type 0} (A : Arith B) where
   pub over_more : (f : ℕ → B) (a n : ℕ) → over A f a (suc n) ≡ A.plus (over A f a n) (f (a + n))
@@ -52,4 +52,4 @@ module _ {B : Type 0} {A : Arith B} (w : Laws A) where
       three f = over_to f a c b h (omega arith) ∙ ap (A.plus (over A f a (c - a))) (over_to f c d b k m)
 
       regroup : (x y z u : B) → A.plus x (A.plus u z) ≡ A.plus (A.plus (A.plus x (A.plus y z)) y) u
-      regroup x y z u = simp (assoc w, comm w, left_comm w, cancel w, self w, zero_r w, zero_l w)
+      regroup x y z u = simp (assoc w, comm w, cancel w)

@@ -23,8 +23,8 @@ module _ {B : Type 0} where
       f ∙ ap (spent p) e ∙ ap (λ z. record { enc = m.enc; dec = m.dec; left = z }) less
 
   -- what a call asks after n operations, told from before them
-  pub asks_on : {Y : Type 0} (m k j : Meaning B) (n p q : ℕ) (x y : Y) (r : Result Y EngineFault) → k ≡ spent n m → Asks k p x r j → q ≡ n + p → x ≡ y → Asks m q y r j
-  asks_on m k j n p q x y r e a h same = record { answer = a.answer ∙ ap Ok same; after = spent_on m k j n p q e a.after h }
+  pub asks_on : {Y : Type 0} {m k j : Meaning B} {x y : Y} {r : Result Y EngineFault} (n p q : ℕ) → k ≡ spent n m → Asks k p x r j → q ≡ n + p → x ≡ y → Asks m q y r j
+  asks_on {m = m} {k = k} {j = j} n p q e a h same = record { answer = a.answer ∙ ap Ok same; after = spent_on m k j n p q e a.after h }
 
   -- an operation after n others, where f picks the map that is asked
   module _ (f : Meaning B → B → B) (keeps : (m : Meaning B) (n : ℕ) → f (spent n m) ≡ f m) (m k : Meaning B) (n : ℕ) (b : B) (r : Result B EngineFault)

@@ -7,30 +7,12 @@ use Rattle.pmac.proofs.Sums.{in_memory}
 use Rattle.pmac.proofs.Recovery.{inner_found}
 use Rattle.pmac.proofs.lost.inner_block.Goals as goal
 
-pub seal_blocks-requires : goal.seal_blocks-requires
-seal_blocks-requires g c =
-    record {
-      numbered = omega arith;
-      ordered = omega arith;
-      inside = in_memory g.met.E.Block.Block.laws c.args.loss.bits.memory.now c.args.loss.bits.len c.args.i (omega arith) (omega arith);
-      afforded = omega arith;
-    }
+pub seal_blocks-requires-clause-inside : goal.seal_blocks-requires-clause-inside
+seal_blocks-requires-clause-inside g c = in_memory g.met.E.Block.Block.laws c.args.loss.bits.memory.now c.args.loss.bits.len c.args.i (omega arith) (omega arith)
 
-pub seal_blocks-requires-2 : goal.seal_blocks-requires-2
-seal_blocks-requires-2 g c =
-    let left = ap (λ z. z.left) c.seal_blocks.ensures.after in
-    record {
-      numbered = omega arith;
-      ordered = omega arith;
-      inside = in_memory g.met.E.Block.Block.laws c.args.loss.bits.memory.now c.args.loss.bits.len c.block_count-count.result (omega arith) (omega arith);
-      afforded = omega arith;
-    }
-
-pub unmasked-requires : goal.unmasked-requires
-unmasked-requires g c =
-    let first = ap (λ z. z.left) c.seal_blocks.ensures.after in
-    let second = ap (λ z. z.left) c.seal_blocks-2.ensures.after in
-    omega arith
+pub seal_blocks-requires-2-clause-inside : goal.seal_blocks-requires-2-clause-inside
+seal_blocks-requires-2-clause-inside g c =
+    in_memory g.met.E.Block.Block.laws c.args.loss.bits.memory.now c.args.loss.bits.len c.block_count-count.result (omega arith) (omega arith)
 
 pub returns : goal.returns
 returns g c =
@@ -54,5 +36,5 @@ returns g c =
     let here = inner_found w m.enc memory c.args.loss.bits.len (omega arith) m.dec l c.args.loss.opened i (omega arith) (omega arith)
     c.ending-ending.result c.in_ok-before.before c.in_ok-behind.behind y (m.dec y) c.offset.result
     c.ending-ending.ensures before_is behind_is (c.xor-y.ensures ∙ ap₂ A.plus c.xor.ensures c.xor-2.ensures) refl c.offset.ensures in
-    asks_on m (g.E.Engine.means c.seal_blocks-2.new.engine) (g.E.Engine.means c.unmasked.new.engine) (k - 2) 1 (k - 1) _ _ c.unmasked.result second c.unmasked.ensures (omega arith)
+    asks_on (k - 2) 1 (k - 1) second c.unmasked.ensures (omega arith)
     (ap (λ z. A.plus (z.dec y) c.offset.result) second ∙ here)

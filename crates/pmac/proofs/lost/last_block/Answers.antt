@@ -9,16 +9,12 @@ use Rattle.pmac.proofs.Sums.{in_memory}
 use Rattle.pmac.proofs.Recovery.{last_found}
 use Rattle.pmac.proofs.lost.last_block.Goals as goal
 
-pub seal_blocks-requires : goal.seal_blocks-requires
-seal_blocks-requires g c =
-    let w = g.met.E.Block.Block.laws in
-    let some = blocks_some w c.args.loss.bits.len in
-    record {
-      numbered = omega arith;
-      ordered = omega arith;
-      inside = in_memory w c.args.loss.bits.memory.now c.args.loss.bits.len c.block_count-count.result (omega arith) (omega arith);
-      afforded = omega arith;
-    }
+pub seal_blocks-requires-clause-ordered : goal.seal_blocks-requires-clause-ordered
+seal_blocks-requires-clause-ordered g c = omega (arith, blocks_some g.met.E.Block.Block.laws c.args.loss.bits.len)
+
+pub seal_blocks-requires-clause-inside : goal.seal_blocks-requires-clause-inside
+seal_blocks-requires-clause-inside g c =
+    in_memory g.met.E.Block.Block.laws c.args.loss.bits.memory.now c.args.loss.bits.len c.block_count-count.result (omega arith) (omega arith)
 
 pub returns : goal.returns
 returns g c =

@@ -21,7 +21,7 @@ returns-then-i-block_count g c =
     let both = asked_both m (g.E.Engine.means c.encipher.new.self) k c.zero.result c.args.tag l d c.encipher.result c.decipher.result (omega arith)
     c.encipher.ensures.answer c.encipher.ensures.after c.in_ok-l.was c.decipher.ensures.answer c.decipher.ensures.after c.in_ok-opened.was in
     let is = recovered_inner w m.enc c.args.bits.memory.now b (omega arith) m.dec c.args.tag l d c.args.i (both.0 ∙ ap m.enc c.zero.ensures) both.1 (omega arith) in
-    asks_on m k (g.E.Engine.means c.inner_block.new.engine) 2 (n - 1) (n + 1) _ _ c.inner_block.result both.2 c.inner_block.ensures (omega arith)
+    asks_on 2 (n - 1) (n + 1) both.2 c.inner_block.ensures (omega arith)
     (ap (λ z. lost_inner A z.enc z.dec l d (content c.args.bits) c.args.i) both.2 ∙ is)
 
 pub returns-else-i-block_count : goal.returns-else-i-block_count
@@ -38,5 +38,5 @@ returns-else-i-block_count g c =
     let both = asked_both m (g.E.Engine.means c.encipher.new.self) k c.zero.result c.args.tag l d c.encipher.result c.decipher.result (omega arith)
     c.encipher.ensures.answer c.encipher.ensures.after c.in_ok-l.was c.decipher.ensures.answer c.decipher.ensures.after c.in_ok-opened.was in
     let is = recovered_last w m.enc c.args.bits.memory.now b (omega arith) m.dec c.args.tag l d c.args.i (both.0 ∙ ap m.enc c.zero.ensures) both.1 (omega arith) in
-    asks_on m k (g.E.Engine.means c.last_block.new.engine) 2 (n - 1) (n + 1) _ _ c.last_block.result both.2 c.last_block.ensures (omega arith)
+    asks_on 2 (n - 1) (n + 1) both.2 c.last_block.ensures (omega arith)
     (ap (λ z. lost_last A z.enc l d (content c.args.bits)) both.2 ∙ is)

@@ -16,9 +16,8 @@ loop-i-init g c =
     let f = stored A m.enc c.args.l c.args.bits.memory.now in
     (c.offset-at.ensures, c.zero-sum.ensures ∙ sym (ap (over A f c.args.range.start) none ∙ over_none A f c.args.range.start), spent_none m (c.args.range.start - c.args.range.start) none)
 
-pub block-block-requires : goal.block-block-requires
-block-block-requires g c =
-    record { numbered = omega arith; inside = inner c.loop-i.i c.args.range.end g.E.Block.Block.arith.size _ c.loop-i-test.true (omega arith) }
+pub block-block-requires-clause-inside : goal.block-block-requires-clause-inside
+block-block-requires-clause-inside g c = inner c.loop-i.i c.args.range.end g.E.Block.Block.arith.size _ c.loop-i-test.true (omega arith)
 
 pub loop-i-preserved : goal.loop-i-preserved
 loop-i-preserved g c =

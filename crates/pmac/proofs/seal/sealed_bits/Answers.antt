@@ -1,21 +1,19 @@
-use Rattle.std.proofs.Common.{◌≡◌, ◌+◌, ◌-◌, ◌*◌, Ok, refl, ap, ◌∙◌, ap₂, arith}
+use Rattle.std.proofs.Common.{◌≡◌, ◌+◌, ◌-◌, Ok, refl, ap, ◌∙◌, ap₂, arith}
 use Rattle.bits.specs.Blocks.{blocks}
-use Rattle.bits.proofs.Counts.{blocks_some, blocks_before}
+use Rattle.bits.proofs.Counts.{blocks_some}
 use Rattle.pmac.specs.Pmac.{over}
 use Rattle.pmac.specs.Stored.{stored}
 use Rattle.pmac.proofs.Spending.{spent_on, spent_none, ok_same, asked_ok}
 use Rattle.pmac.proofs.Sealing.{sealing_made}
+use Rattle.pmac.proofs.Sums.{in_memory}
 use Rattle.pmac.proofs.seal.sealed_bits.Goals as goal
 
-pub seal_blocks-requires : goal.seal_blocks-requires
-seal_blocks-requires g c =
-    let A = g.E.Block.Block.arith in
-    let w = g.met.E.Block.Block.laws in
-    let b = c.args.bits.len in
-    let some = blocks_some w b in
-    let e : (c.block_count-count.result - 1) * A.size ≡ (blocks A b - 1) * A.size = ap (λ m. (m - 1) * A.size) c.block_count-count.ensures in
-    let left : (g.E.Engine.means c.encipher.new.self).left ≡ (g.E.Engine.means c.args.engine.now).left - 1 = ap (λ m. m.left) c.encipher.ensures.after in
-    record { numbered = omega arith; ordered = omega arith; inside = omega (arith, blocks_before w b); afforded = omega arith }
+pub seal_blocks-requires-clause-ordered : goal.seal_blocks-requires-clause-ordered
+seal_blocks-requires-clause-ordered g c = omega (arith, blocks_some g.met.E.Block.Block.laws c.args.bits.len)
+
+pub seal_blocks-requires-clause-inside : goal.seal_blocks-requires-clause-inside
+seal_blocks-requires-clause-inside g c =
+    in_memory g.met.E.Block.Block.laws c.args.bits.memory.now c.args.bits.len c.block_count-count.result (omega arith) (omega arith)
 
 pub closed-requires : goal.closed-requires
 closed-requires g c =
