@@ -1,10 +1,53 @@
--- Bytes of a number as bits. Assumes nothing.
-use Rattle.std.proofs.Common.{◌≡◌, ℕ, zero, suc, ◌+◌, ◌*◌, ◌/◌, ◌^◌, ◌<◌, ◌≤◌, Bool, List, [], ◌∷◌, ◌++◌, length, get_or, take, sym, refl, ap, ◌∙◌, ap₂, arith, take-suc}
-use Rattle.std.proofs.lemmas.Nat.{pow-add}
-use Rattle.std.proofs.lemmas.List.{length-append, take_all, append-nil}
+-- Numbers of some bits in a word of 128, and bytes of a number as bits. Assumes nothing.
+use Rattle.std.proofs.Common.{◌≡◌, ℕ, zero, suc, ◌+◌, ◌*◌, ◌/◌, ◌%◌, ◌^◌, ◌<◌, ◌≤◌, ◌-◌, Bool, List, [], ◌∷◌, ◌++◌, length, get_or, take, drop, replicate, bit_and, bit_xor, sym, refl, ap, ◌∙◌, ap₂, arith, take-suc, add-zero, add-suc, subst, get_or-take}
+use Rattle.std.proofs.Math.Nat.{mod-mod, div-one}
+use Rattle.std.proofs.lemmas.Nat.{pow-add, and_mask, xor_mod}
+use Rattle.std.proofs.lemmas.Nat.Bits.{ones_shr}
+use Rattle.std.proofs.Math.Pow.{pow_mono, mod-mod-pow, shr_mod}
+use Rattle.std.proofs.lemmas.List.{length-append, length-replicate, get_or_append_left, get_or-append-add, get_or-replicate, take-replicate, take_all, append-nil}
+use borrow.Rule.Slice.PartMut.{put_mid}
+use Rattle.std.proofs.lemmas.Slice.{take-put_mid}
+use Rattle.std.specs.Int.{w128, from_be_bytes, to_be_bytes}
 use Rattle.block.specs.Bits.{bits, number, digit, bits_of, bytes_of}
 use Rattle.block.specs.BitsLemmas.{length_bits, number_bits, bits_of_append, take_bits, drop_bits}
-use Rattle.block.specs.Width.{value_of, digits}
+use Rattle.block.specs.Blocks.{make}
+use Rattle.block.specs.Laws.{same}
+use Rattle.block.specs.declared.block_of.BlockOf.{BlockOf}
+use Rattle.block.specs.Width.{reduced, doubled, IsWidth, value_of, digits}
+
+-- the k lowest bits, by a mask
+pub masked : (k v : ℕ) → k ≤ 128 → bit_and v ((2 ^ 128 - 1) / 2 ^ (128 - k)) ≡ v % 2 ^ k
+masked k v h =
+    let e : 128 - (128 - k) ≡ k = omega arith in
+    ap (bit_and v) (ones_shr 128 (128 - k) (omega arith) ∙ ap (λ j. 2 ^ j - 1) e) ∙ and_mask v k
+
+-- what is shifted up in 128 bits has the k lowest bits of what is shifted up in k bits
+shifted : (k x : ℕ) → k ≤ 128 → x * 2 % 2 ^ 128 % 2 ^ k ≡ x * 2 % 2 ^ k % 2 ^ k
+shifted k x h =
+    let e : 128 - k + k ≡ 128 = omega arith in
+    ap (λ n. x * 2 % 2 ^ n % 2 ^ k) (sym e) ∙ mod-mod-pow (x * 2) (128 - k) k ∙ sym (mod-mod (x * 2) (2 ^ k))
+
+reduced_low : (k b c y z : ℕ) → y % 2 ^ k ≡ z % 2 ^ k → reduced b c y % 2 ^ k ≡ reduced b c z % 2 ^ k
+reduced_low k zero c y z e = e
+reduced_low k (suc b) c y z e = xor_mod y c k ∙ ap (λ v. bit_xor v (c % 2 ^ k)) e ∙ sym (xor_mod z c k)
+
+doubled_low : (k c x : ℕ) → x < 2 ^ k → 0 < k → k ≤ 128 → reduced (x / 2 ^ (k - 1)) c (x * 2 % 2 ^ 128) % 2 ^ k ≡ doubled k c x % 2 ^ k
+doubled_low k c x h some small =
+    let n : 1 + (k - 1) ≡ k = omega arith in
+    ap (λ b. reduced b c (x * 2 % 2 ^ 128) % 2 ^ k) (sym (shr_mod 1 (k - 1) (subst (λ j. x < 2 ^ j) (sym n) h)))
+    ∙ reduced_low k (x / 2 ^ (k - 1) % 2) c _ _ (shifted k x small)
+
+pub doubled_made : (size c n : ℕ) (x r : BlockOf size) → r ≡ make size (reduced (x.value / 2 ^ (8 * size - 1)) n (x.value * 2 % 2 ^ 128)) → n ≡ c → 0 < size → size ≤ 16 → r ≡ make size (doubled (8 * size) c x.value)
+doubled_made size c n x r er en some small =
+    er ∙ same _ _ (doubled_low (8 * size) n x.value x.fits (omega arith) (omega arith)) ∙ ap (λ z. make size (doubled (8 * size) z x.value)) en
+
+-- what halving reduces by fits 128 bits
+pub halving_fits : (size c p : ℕ) → IsWidth size c → p ≤ 2 ^ (8 * size - 1) → p + c / 2 < 2 ^ 128
+halving_fits size c p w h =
+    let n : suc (8 * size - 1) ≡ 8 * size = omega (arith, w.some) in
+    let fits : c < 2 ^ suc (8 * size - 1) = subst (λ j. c < 2 ^ j) (sym n) w.fits in
+    let most : 2 ^ suc (8 * size - 1) ≤ 2 ^ 128 = pow_mono {i = suc (8 * size - 1)} {j = 128} (omega (arith, w.small, w.some)) in
+    omega arith
 
 number_append : (xs ys : List Bool) → number (xs ++ ys) ≡ number xs * 2 ^ length ys + number ys
 unfolding number
@@ -37,6 +80,41 @@ front (suc k) xs h f =
 pub value_bits : (k : ℕ) (xs : List ℕ) → length xs ≡ k → ((i : ℕ) → get_or xs i 0 < 256) → number (bits_of xs) ≡ value_of k xs
 value_bits k xs e f = ap (λ z. number (bits_of z)) (sym (take_all k xs (omega arith))) ∙ front k xs (omega arith) f
 
+-- zeros in front change no number
+value_zeros : (j i : ℕ) (xs : List ℕ) → i ≤ j → value_of i (replicate j 0 ++ xs) ≡ 0
+value_zeros j zero xs h = refl
+value_zeros j (suc i) xs h =
+    let zeros : List ℕ = replicate j 0 in
+    let long : length zeros ≡ j = length-replicate j 0 in
+    let none : get_or (zeros ++ xs) i 0 ≡ 0 = get_or_append_left zeros xs 0 i (omega arith) ∙ get_or-replicate j i 0 0 (omega arith) in
+    omega (arith, none, value_zeros j i xs (omega arith))
+
+value_padded : (j k : ℕ) (xs : List ℕ) → value_of (j + k) (replicate j 0 ++ xs) ≡ value_of k xs
+value_padded j zero xs = ap (λ n. value_of n (replicate j 0 ++ xs)) (add-zero j) ∙ value_zeros j j xs (omega arith)
+value_padded j (suc k) xs =
+    let all : List ℕ = replicate j 0 ++ xs in
+    ap (λ n. value_of n all) (add-suc j k)
+    ∙ ap₂ (λ v b. v * 256 + b) (value_padded j k xs)
+    (ap (λ n. get_or all (n + k) 0) (sym (length-replicate j 0)) ∙ get_or-append-add (replicate j 0) xs k 0)
+
+big_endian : (xs : List ℕ) → from_be_bytes w128 xs ≡ value_of 16 xs
+big_endian xs = omega arith
+
+value_below : (k n : ℕ) (xs : List ℕ) → k ≤ n → value_of k xs ≡ value_of k (take n xs)
+value_below zero n xs h = refl
+value_below (suc k) n xs h = ap₂ (λ v b. v * 256 + b) (value_below k n xs (omega arith)) (sym (get_or-take n xs k 0 (omega arith)))
+
+-- the number read from k bytes that were put at the end of 16 zeros
+pub read_at_end : (k : ℕ) (xs : List ℕ) → length xs ≡ k → k ≤ 16 → from_be_bytes w128 (put_mid (16 - k) (16 - (16 - k)) (replicate 16 0) xs) ≡ value_of k xs
+read_at_end k xs long small =
+    let zeros : List ℕ = replicate 16 0 in
+    let all = put_mid (16 - k) (16 - (16 - k)) zeros xs in
+    let front : take (16 - k) zeros ≡ replicate (16 - k) 0 = take-replicate (16 - k) 16 0 (omega arith) in
+    let last : take 16 all ≡ replicate (16 - k) 0 ++ xs = take-put_mid (16 - k) (16 - (16 - k)) zeros xs 16 (omega arith) (omega arith) ∙ ap (λ ys. ys ++ xs) front in
+    let e : 16 ≡ 16 - k + k = omega arith in
+    big_endian all ∙ value_below 16 16 all (omega arith) ∙ ap (value_of 16) last
+    ∙ ap (λ n. value_of n (replicate (16 - k) 0 ++ xs)) e ∙ value_padded (16 - k) k xs
+
 -- the bytes of a number
 pub bytes_bits : (k x : ℕ) → bytes_of k (bits (8 * k) x) ≡ digits k x
 unfolding bytes_of
@@ -46,3 +124,21 @@ bytes_bits (suc k) x =
     ap (λ z. bytes_of (suc k) (bits z x)) n
     ∙ ap₂ (λ y ys. number y ∷ bytes_of k ys) (take_bits 8 (8 * k) x) (drop_bits 8 (8 * k) x)
     ∙ ap₂ (λ y ys. y ∷ ys) (number_bits 8 (x / 2 ^ (8 * k))) (bytes_bits k x)
+
+-- the low bytes of a number are the last
+pub digits_last : (j k x : ℕ) → drop j (digits (j + k) x) ≡ digits k x
+digits_last zero k x = ap (λ n. digits n x) (omega arith)
+digits_last (suc j) k x = let e : suc j + k ≡ suc (j + k) = omega arith in ap (λ n. drop (suc j) (digits n x)) e ∙ digits_last j k x
+
+length_digits : (k x : ℕ) → length (digits k x) ≡ k
+length_digits zero x = refl
+length_digits (suc k) x = ap suc (length_digits k x)
+
+-- the k last of 16 bytes
+pub last_bytes : (k x : ℕ) → k ≤ 16 → take (16 - (16 - k)) (drop (16 - k) (to_be_bytes w128 x)) ≡ digits k x
+last_bytes k x small =
+    let e : 16 ≡ 16 - k + k = omega arith in
+    let back : 16 - (16 - k) ≡ k = omega arith in
+    let one : x / 1 ≡ x = div-one x in
+    let bytes : to_be_bytes w128 x ≡ digits 16 x = cc in
+    ap₂ take back (ap (drop (16 - k)) bytes ∙ ap (λ n. drop (16 - k) (digits n x)) e ∙ digits_last (16 - k) k x) ∙ take_all k (digits k x) (omega (arith, length_digits k x))
