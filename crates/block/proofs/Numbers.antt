@@ -1,9 +1,9 @@
 -- Numbers of some bits in a word of 128, and bytes of a number as bits. Assumes nothing.
-use Rattle.std.proofs.Common.{◌≡◌, ℕ, zero, suc, ◌+◌, ◌*◌, ◌/◌, ◌%◌, ◌^◌, ◌<◌, ◌≤◌, ◌-◌, Bool, List, [], ◌∷◌, ◌++◌, length, get_or, take, drop, replicate, bit_and, bit_xor, sym, refl, ap, ◌∙◌, ap₂, arith, take-suc, add-zero, add-suc, subst, get_or-take}
+use Rattle.std.proofs.Common.{◌≡◌, ℕ, zero, suc, ◌+◌, ◌*◌, ◌/◌, ◌%◌, ◌^◌, ◌<◌, ◌≤◌, ◌-◌, Bool, List, [], ◌∷◌, ◌++◌, length, get_or, take, drop, replicate, bit_and, bit_or, bit_xor, sym, refl, ap, ◌∙◌, ap₂, arith, take-suc, add-zero, add-suc, subst, get_or-take, mod-eq_of_lt}
 use Rattle.std.proofs.Math.Nat.{mod-mod, div-one}
-use Rattle.std.proofs.lemmas.Nat.{pow-add, and_mask, xor_mod}
+use Rattle.std.proofs.lemmas.Nat.{pow-add, and_mask, xor_mod, or_shifted}
 use Rattle.std.proofs.lemmas.Nat.Bits.{ones_shr}
-use Rattle.std.proofs.Math.Pow.{pow_mono, mod-mod-pow, shr_mod}
+use Rattle.std.proofs.Math.Pow.{pow-lt, mod-mod-pow, shr_mod}
 use Rattle.std.proofs.lemmas.List.{length-append, length-replicate, get_or_append_left, get_or-append-add, get_or-replicate, take-replicate, take_all, append-nil}
 use borrow.Rule.Slice.PartMut.{put_mid}
 use Rattle.std.proofs.lemmas.Slice.{take-put_mid}
@@ -13,7 +13,7 @@ use Rattle.block.specs.BitsLemmas.{length_bits, number_bits, bits_of_append, tak
 use Rattle.block.specs.Blocks.{make}
 use Rattle.block.specs.Laws.{same}
 use Rattle.block.specs.declared.block_of.BlockOf.{BlockOf}
-use Rattle.block.specs.Width.{reduced, doubled, IsWidth, value_of, digits}
+use Rattle.block.specs.Width.{reduced, doubled, halving, IsWidth, value_of, digits}
 
 -- the k lowest bits, by a mask
 pub masked : (k v : ℕ) → k ≤ 128 → bit_and v ((2 ^ 128 - 1) / 2 ^ (128 - k)) ≡ v % 2 ^ k
@@ -41,13 +41,15 @@ pub doubled_made : (size c n : ℕ) (x r : BlockOf size) → r ≡ make size (re
 doubled_made size c n x r er en some small =
     er ∙ same _ _ (doubled_low (8 * size) n x.value x.fits (omega arith) (omega arith)) ∙ ap (λ z. make size (doubled (8 * size) z x.value)) en
 
--- what halving reduces by fits 128 bits
-pub halving_fits : (size c p : ℕ) → IsWidth size c → p ≤ 2 ^ (8 * size - 1) → p + c / 2 < 2 ^ 128
-halving_fits size c p w h =
-    let n : suc (8 * size - 1) ≡ 8 * size = omega (arith, w.some) in
-    let fits : c < 2 ^ suc (8 * size - 1) = subst (λ j. c < 2 ^ j) (sym n) w.fits in
-    let most : 2 ^ suc (8 * size - 1) ≤ 2 ^ 128 = pow_mono {i = suc (8 * size - 1)} {j = 128} (omega (arith, w.small, w.some)) in
-    omega arith
+-- what halving reduces by, made of bits
+pub halving_made : (size c n : ℕ) → IsWidth size c → n ≡ c → bit_or (1 * 2 ^ (8 * size - 1) % 2 ^ 128) (n / 2) ≡ halving size c
+halving_made size c n w e =
+    let k = 8 * size - 1 in
+    let bits : suc k ≡ 8 * size = omega (arith, w.some) in
+    let fits : n < 2 ^ suc k = subst (λ j. n < 2 ^ j) (sym bits) (subst (λ z. z < 2 ^ (8 * size)) (sym e) w.fits) in
+    let wide : 2 ^ k < 2 ^ 128 = pow-lt {i = k} {j = 128} (omega (arith, w.small)) in
+    let first : 1 * 2 ^ k % 2 ^ 128 ≡ 1 * 2 ^ k = mod-eq_of_lt (omega arith) in
+    ap (λ z. bit_or z (n / 2)) first ∙ or_shifted 1 k (n / 2) (omega arith) ∙ omega (arith, e)
 
 number_append : (xs ys : List Bool) → number (xs ++ ys) ≡ number xs * 2 ^ length ys + number ys
 unfolding number

@@ -54,7 +54,7 @@ where
     fn halving() -> u128
         ensures { result ≡ halving SIZE ⟦<BlockOf<SIZE> as Width<SIZE>>⟧.REDUCTION }
     {
-        (1 << (8 * SIZE - 1)) + Self::REDUCTION / 2
+        (1 << (8 * SIZE - 1)) | (Self::REDUCTION >> 1)
     }
 
     // The block of what was shifted, ⊕ed with `number` where the bit that was shifted out is 1.
@@ -96,15 +96,13 @@ where
     }
 
     fn double(self) -> Self {
-        Self::reduced(
-            self.value >> (8 * SIZE - 1),
-            Self::REDUCTION,
-            self.value << 1,
-        )
+        let first = self.value >> (8 * SIZE - 1);
+        Self::reduced(first, Self::REDUCTION, self.value << 1)
     }
 
     fn halve(self) -> Self {
-        Self::reduced(self.value % 2, Self::halving(), self.value >> 1)
+        let last = self.value % 2;
+        Self::reduced(last, Self::halving(), self.value >> 1)
     }
 
     fn read(bytes: &[u8]) -> Self {
