@@ -1,6 +1,6 @@
 -- What the AES-128 engine means. Assumes nothing.
 use Rattle.std.specs.Prelude.{Ok, Err, Result}
-use Rattle.block.specs.declared.block128.Block128.{Block128}
+use Rattle.block.specs.Blocks.{Block128}
 use Rattle.engine.specs.Meaning.{Meaning}
 use Rattle.engine.specs.declared.fault.KeyFault.{KeyFault}
 use Rattle.engine.specs.Refusals.{Refusal, key_refusal}

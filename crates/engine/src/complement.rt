@@ -28,7 +28,7 @@ impl Complement {
 fn flip(block: Block64) -> Block64
     ensures { result ≡ flipped block }
 {
-    block.xor(Block64::new(u64::MAX))
+    block.xor(Block64::new(u64::MAX.into()))
 }
 
 impl Engine for Complement {
