@@ -1,5 +1,5 @@
 -- The arithmetic of blocks, and its two widths: 64 bits with 1B hex and 128 bits with 87. Assumes nothing.
-use Rattle.std.specs.Prelude.{ℕ, ◌*◌, ◌%◌, ◌^◌, ◌<◌, bit_xor}
+use Rattle.std.specs.Prelude.{◌≡◌, ℕ, ◌*◌, ◌%◌, ◌^◌, ◌<◌, bit_xor, refl}
 use Rattle.std.proofs.Common.{pow_pos}
 use Rattle.std.proofs.lemmas.Nat.{mod_below}
 use Rattle.block.specs.Bits.{bits, number}
@@ -43,3 +43,10 @@ arith64 = arith 8 0x1B
 
 abbrev pub arith128 : Arith Block128
 arith128 = arith 16 0x87
+
+-- so halving reduces by 80..0D and by 80..43 hex
+pub halving64 : halving 8 0x1B ≡ 0x800000000000000D
+halving64 = refl
+
+pub halving128 : halving 16 0x87 ≡ 0x80000000000000000000000000000043
+halving128 = refl

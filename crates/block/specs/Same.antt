@@ -1,8 +1,7 @@
 -- A block is the block of its number; the laws at both widths. Assumes nothing.
-use Rattle.std.specs.Prelude.{◌≡◌, ℕ, ◌*◌, ◌%◌, ◌^◌, refl}
+use Rattle.std.specs.Prelude.{◌≡◌, ℕ, ◌*◌, ◌%◌, ◌^◌}
 use Rattle.std.proofs.Common.{sym, ap, ◌∙◌, mod-eq_of_lt}
 use Rattle.block.specs.Arith.{Laws}
-use Rattle.block.specs.Width.{halving}
 use Rattle.block.specs.WidthLemmas.{width64, width128}
 use Rattle.block.specs.Blocks.{Block64, Block128, make, make64, make128, arith64, arith128}
 use Rattle.block.specs.declared.block_of.BlockOf.{BlockOf}
@@ -22,10 +21,3 @@ laws64 = laws 8 0x1B width64
 
 pub laws128 : Laws arith128
 laws128 = laws 16 0x87 width128
-
--- halving reduces by 80..0D and by 80..43 hex
-pub halving64 : halving 8 0x1B ≡ 0x800000000000000D
-halving64 = refl
-
-pub halving128 : halving 16 0x87 ≡ 0x80000000000000000000000000000043
-halving128 = refl

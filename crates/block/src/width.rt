@@ -52,7 +52,7 @@ where
 
     // The number that halving reduces by: half of that of doubling, below a first bit of 1.
     fn halving() -> u128
-        ensures { result ≡ halving SIZE ⟦<BlockOf<SIZE> as Width<SIZE>>⟧.REDUCTION }
+        ensures { result ≡ halving SIZE ⟦<Self as Width<SIZE>>⟧.REDUCTION }
     {
         (1 << (8 * SIZE - 1)) | (Self::REDUCTION >> 1)
     }
@@ -79,9 +79,9 @@ impl<const SIZE: usize> Block for BlockOf<SIZE>
 where
     BlockOf<SIZE>: Width<SIZE>,
 {
-    ghost arith = { arith SIZE ⟦<BlockOf<SIZE> as Width<SIZE>>⟧.REDUCTION };
+    ghost arith = { arith SIZE ⟦<Self as Width<SIZE>>⟧.REDUCTION };
 
-    ghost laws = { laws SIZE ⟦<BlockOf<SIZE> as Width<SIZE>>⟧.REDUCTION ⟦<BlockOf<SIZE> as Width<SIZE>>⟧.sound };
+    ghost laws = { laws SIZE ⟦<Self as Width<SIZE>>⟧.REDUCTION ⟦<Self as Width<SIZE>>⟧.sound };
 
     fn size() -> usize {
         SIZE

@@ -1,5 +1,5 @@
 use Rattle.std.proofs.Common.{rules}
-use Rattle.block.proofs.Numbers.{halving_made}
+use Rattle.block.proofs.Shifts.{halving_made}
 use Rattle.block.proofs.block_of.BlockOf.halving.Goals as goal
 
 pub returns : goal.returns

@@ -1,7 +1,7 @@
 use Rattle.std.proofs.Common.{◌≤◌, ◌*◌, ◌^◌, ◌<◌, sym, subst, rules}
 use Rattle.block.specs.Blocks.{lowest}
 use Rattle.block.specs.Laws.{same}
-use Rattle.block.proofs.Numbers.{masked}
+use Rattle.block.proofs.Shifts.{masked}
 use Rattle.block.proofs.block_of.BlockOf.new.Goals as goal
 
 pub invariant_of-result : goal.invariant_of-result

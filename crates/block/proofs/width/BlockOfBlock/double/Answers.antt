@@ -1,5 +1,5 @@
 use Rattle.std.proofs.Common.{rules}
-use Rattle.block.proofs.Numbers.{doubled_made}
+use Rattle.block.proofs.Shifts.{doubled_made}
 use Rattle.block.proofs.width.BlockOfBlock.double.Goals as goal
 
 pub returns : goal.returns
