@@ -10,7 +10,7 @@ use Rattle.block.specs.declared.block_of.BlockOf.{BlockOf}
 pub lowest : (size n : ℕ) → n % 2 ^ (8 * size) < 2 ^ (8 * size)
 lowest size n = mod_below n (2 ^ (8 * size)) (pow_pos (8 * size))
 
--- the block of a number's n lowest bits
+-- the block of a number's 8 * size lowest bits
 abbrev pub make : (size : ℕ) → ℕ → BlockOf size
 make size n = record { value = n % 2 ^ (8 * size); fits = lowest size n }
 
