@@ -1,5 +1,5 @@
 -- What the AES-128 engine means. Assumes nothing.
-use Rattle.block.specs.declared.block128.Block128.{Block128}
+use Rattle.block.specs.Blocks.{Block128}
 use Rattle.engine.specs.Meaning.{Meaning}
 use Rattle.aes.specs.Maps.{keyed}
 use Rattle.aes.specs.Keyed.{keys_in}

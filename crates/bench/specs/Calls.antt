@@ -2,7 +2,7 @@
 use Rattle.std.specs.Prelude.{ℕ, List, Ok, Err, Result}
 use Rattle.block.specs.Arith.{Arith}
 use Rattle.block.specs.Blocks.{arith128}
-use Rattle.block.specs.declared.block128.Block128.{Block128}
+use Rattle.block.specs.Blocks.{Block128}
 use Rattle.bits.specs.Memory.{standing}
 use Rattle.engine.specs.Meaning.{Meaning}
 use Rattle.engine.specs.Refusals.{Refusal}

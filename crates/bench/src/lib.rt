@@ -63,7 +63,7 @@ pub fn bench_xtea_pmac(key: &[u8], memory: &[u8]) -> u64
         return 0;
     };
     match tags::full_tag(&mut engine, memory) {
-        Some(tag) => tag.value(),
+        Some(tag) => tag.value() as u64,
         None => 0,
     }
 }

@@ -1,26 +1,52 @@
--- The two widths: 64 bits with 1B and 80..0D hex, 128 bits with 87 and 80..43 hex. Assumes nothing.
-use Rattle.std.specs.Prelude.{ℕ, ◌%◌, ◌^◌, ◌<◌}
-use Rattle.std.proofs.Common.{arith}
+-- The arithmetic of blocks, and its two widths: 64 bits with 1B hex and 128 bits with 87. Assumes nothing.
+use Rattle.std.specs.Prelude.{◌≡◌, ℕ, ◌*◌, ◌%◌, ◌^◌, ◌<◌, bit_xor, refl}
+use Rattle.std.proofs.Common.{pow_pos}
+use Rattle.std.proofs.lemmas.Nat.{mod_below}
+use Rattle.block.specs.Bits.{bits, number}
 use Rattle.block.specs.Arith.{Arith}
-use Rattle.block.specs.Width.{arith_of}
-use Rattle.block.specs.declared.block64.Block64.{Block64}
-use Rattle.block.specs.declared.block128.Block128.{Block128}
+use Rattle.block.specs.Width.{doubled, halved, halving}
+use Rattle.block.specs.declared.block_of.BlockOf.{BlockOf}
 
-pub low64 : (n : ℕ) → n % 2 ^ 64 < 2 ^ 64
-low64 n = omega arith
+pub lowest : (size n : ℕ) → n % 2 ^ (8 * size) < 2 ^ (8 * size)
+lowest size n = mod_below n (2 ^ (8 * size)) (pow_pos (8 * size))
 
-pub low128 : (n : ℕ) → n % 2 ^ 128 < 2 ^ 128
-low128 n = omega arith
+-- the block of a number's 8 * size lowest bits
+abbrev pub make : (size : ℕ) → ℕ → BlockOf size
+make size n = record { value = n % 2 ^ (8 * size); fits = lowest size n }
 
--- the block of a number's n lowest bits
+-- blocks of `size` bytes, where doubling reduces by c
+abbrev pub arith : (size c : ℕ) → Arith (BlockOf size)
+arith size c = record {
+  size = size;
+  zero = make size 0;
+  plus = λ x y. make size (bit_xor x.value y.value);
+  double = λ x. make size (doubled (8 * size) c x.value);
+  halve = λ x. make size (halved (halving size c) x.value);
+  pack = λ bs. make size (number bs);
+  unpack = λ x. bits (8 * size) x.value;
+}
+
+abbrev pub Block64 : Type 0
+Block64 = BlockOf 8
+
+abbrev pub Block128 : Type 0
+Block128 = BlockOf 16
+
 abbrev pub make64 : ℕ → Block64
-make64 n = record { value = n % 2 ^ 64; fits = low64 n }
+make64 = make 8
 
 abbrev pub make128 : ℕ → Block128
-make128 n = record { value = n % 2 ^ 128; fits = low128 n }
+make128 = make 16
 
 abbrev pub arith64 : Arith Block64
-arith64 = arith_of (λ x. x.value) make64 8 0x1B 0x800000000000000D
+arith64 = arith 8 0x1B
 
 abbrev pub arith128 : Arith Block128
-arith128 = arith_of (λ x. x.value) make128 16 0x87 0x80000000000000000000000000000043
+arith128 = arith 16 0x87
+
+-- so halving reduces by 80..0D and by 80..43 hex
+pub halving64 : halving 8 0x1B ≡ 0x800000000000000D
+halving64 = refl
+
+pub halving128 : halving 16 0x87 ≡ 0x80000000000000000000000000000043
+halving128 = refl

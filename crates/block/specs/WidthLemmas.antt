@@ -1,11 +1,11 @@
 -- Doubling and halving, once for every width of suc m bits: with e below 2 ^ m, doubling reduces by e * 2 + 1
 -- and halving by 2 ^ m + e. Assumes nothing.
 use Rattle.std.specs.Prelude.{◌≡◌, ℕ, zero, suc, ◌+◌, ◌-◌, ◌*◌, ◌/◌, ◌%◌, ◌^◌, ◌<◌, bit_xor, refl}
-use Rattle.std.proofs.Common.{sym, ap, ap₂, ◌∙◌, subst, add-zero, mod-eq_of_lt, arith, pow_pos}
+use Rattle.std.proofs.Common.{sym, ap, ap₂, ◌∙◌, subst, add-zero, mod-eq_of_lt, arith, pow_pos, lit<, lit≤}
 use Rattle.std.proofs.Math.Nat.{div-eq_of_lt}
 use Rattle.std.proofs.lemmas.Nat.{shr_split, shr_high, mod_low, mod_below, div_below, xor_lt, xor_comm, xor_block, xor_shr, xor_mod}
 use Rattle.std.specs.Int.Bits.{xor_assoc, xor_self, xor_zero_r, xor_shifted}
-use Rattle.block.specs.Width.{reduced, doubled, halved}
+use Rattle.block.specs.Width.{reduced, doubled, halved, halving, IsWidth}
 
 -- what doubling with c and halving with d keep, at n bits
 pub record Shifts (n c d : ℕ) : Type 0 where
@@ -147,3 +147,21 @@ module _ (m e : ℕ) (he : e < 2 ^ m) where
     double_xor = double_xor;
     halve_xor = halve_xor;
   }
+
+-- ---- at a size in bytes
+pub shifts_at : (size c : ℕ) → IsWidth size c → Shifts (8 * size) c (halving size c)
+shifts_at size c w =
+    let m = 8 * size - 1 in
+    let bits : suc m ≡ 8 * size = omega (arith, w.some) in
+    let odd : c / 2 * 2 + 1 ≡ c = omega (arith, w.odd) in
+    let fits : c < 2 ^ suc m = subst (λ n. c < 2 ^ n) (sym bits) w.fits in
+    let high : 1 * 2 ^ m + c / 2 ≡ halving size c = omega arith in
+    subst (λ n. Shifts n c (halving size c)) bits
+    (subst (λ z. Shifts (suc m) z (halving size c)) odd
+    (subst (Shifts (suc m) (c / 2 * 2 + 1)) high (shifts m (c / 2) (omega arith))))
+
+pub width64 : IsWidth 8 0x1B
+width64 = record { some = lit< tt; small = lit≤ tt; odd = refl; fits = lit< tt }
+
+pub width128 : IsWidth 16 0x87
+width128 = record { some = lit< tt; small = lit≤ tt; odd = refl; fits = lit< tt }

@@ -25,7 +25,7 @@ impl Metered<AllBits> {
 fn flip(block: Block64) -> Block64
     ensures { result ≡ flipped block }
 {
-    block.xor(Block64::new(u64::MAX))
+    block.xor(Block64::new(u64::MAX.into()))
 }
 
 impl Cipher for AllBits {

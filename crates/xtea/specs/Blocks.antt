@@ -1,7 +1,7 @@
 -- XTEA on blocks: each way undoes the other, and the published example. Assumes nothing.
 use Rattle.std.specs.Prelude.{◌≡◌, ℕ, ◌+◌, ◌*◌, ◌/◌, ◌%◌, ◌^◌, List, [], ◌∷◌, refl}
 use Rattle.std.proofs.Common.{sym, ap, ◌∙◌, arith}
-use Rattle.block.specs.declared.block64.Block64.{Block64}
+use Rattle.block.specs.Blocks.{Block64}
 use Rattle.block.specs.Same.{made64}
 use Rattle.engine.specs.Meaning.{Undoes}
 use Rattle.xtea.specs.Cycles.{Words, Fit, cycle, enciphered, deciphered}

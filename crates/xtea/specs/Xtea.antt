@@ -1,7 +1,7 @@
 -- XTEA with 32 cycles on blocks of 64 bits, under a key of 16 bytes. Assumes nothing.
 use Rattle.std.specs.Prelude.{◌≡◌, ℕ, ◌+◌, ◌*◌, ◌/◌, ◌%◌, ◌^◌, cond, List, [], ◌∷◌, length, Ok, Err, Result, ◌==◌, slice_index}
 use Rattle.block.specs.Blocks.{make64}
-use Rattle.block.specs.declared.block64.Block64.{Block64}
+use Rattle.block.specs.Blocks.{Block64}
 use Rattle.engine.specs.Meaning.{Meaning}
 use Rattle.engine.specs.Refusals.{Refusal}
 use Rattle.xtea.specs.declared.Xtea.{Xtea}

@@ -18,7 +18,7 @@ const KEY_BYTES: usize = 16;
 const CYCLES: u32 = 32;
 
 // How many values a word takes.
-const WORDS: u64 = 1 << 32;
+const WORDS: u128 = 1 << 32;
 
 // XTEA under one key.
 #[derive(Drop)]
@@ -86,7 +86,7 @@ fn join(words: (u32, u32)) -> Block64
     ensures { result ≡ joined words }
 {
     let (v, w) = words;
-    Block64::new(v as u64 * WORDS + w as u64)
+    Block64::new(v as u128 * WORDS + w as u128)
 }
 
 // The definition gives the published example.
@@ -102,12 +102,12 @@ mod tests {
 
     const COUNTING: u128 = 0x00010203_04050607_08090A0B_0C0D0E0F;
 
-    const LETTERS: u64 = 0x41424344_45464748;
+    const LETTERS: u128 = 0x41424344_45464748;
 
-    const SAME: u64 = 0x41414141_41414141;
+    const SAME: u128 = 0x41414141_41414141;
 
     // Key, block, enciphered block: the vectors of libtomcrypt, src/ciphers/xtea.c, xtea_test.
-    const PUBLISHED: [(u128, u64, u64); 10] = [
+    const PUBLISHED: [(u128, u128, u128); 10] = [
         (0, 0, 0xDEE9D4D8_F7131ED9),
         (0x1_00000002_00000003_00000004, 0, 0xA597AB41_76014D72),
         (
@@ -128,7 +128,7 @@ mod tests {
         (0, 0x70E1225D_6E4E7655, SAME),
     ];
 
-    fn both_ways(key: u128, block: u64, enciphered: u64) -> Option<(u64, u64)> {
+    fn both_ways(key: u128, block: u128, enciphered: u128) -> Option<(u128, u128)> {
         let mut engine = Xtea::new(&key.to_be_bytes(), 2).ok()?;
         let there = engine.encipher(Block64::new(block)).ok()?;
         let back = engine.decipher(Block64::new(enciphered)).ok()?;
@@ -145,9 +145,9 @@ mod tests {
         }
     }
 
-    const BEFORE: u64 = 0x00112233_44556677;
+    const BEFORE: u128 = 0x00112233_44556677;
 
-    const AFTER: u64 = 0x8899AABB_CCDDEEFF;
+    const AFTER: u128 = 0x8899AABB_CCDDEEFF;
 
     // A mask over a cap over a cascade of XTEA and complement, on a published vector.
     #[test]
