@@ -3,22 +3,19 @@
 
 mod cycles;
 
-ghost use Rattle.std.specs.Prelude.{◌≡◌, ◌+◌, ◌≤◌, length};
-ghost use Rattle.xtea.specs.Xtea.{halves, joined, made, meant, seen, Published};
-ghost use Rattle.xtea.specs.Xtea.{word as word_of};
+ghost use Rattle.std.specs.Prelude.{◌≡◌, length};
+ghost use Rattle.xtea.specs.Xtea.{halves, joined, made, meant, seen, words, Published};
 ghost use Rattle.xtea.specs.Blocks;
 ghost use Rattle.std.proofs.Common.{rules};
 
 use block::Block64;
 pub use cycles::cycles_undo;
 use engine::{Allowance, Engine, EngineFault, KeyFault};
+use std::array;
 
 const KEY_BYTES: usize = 16;
 
 const CYCLES: u32 = 32;
-
-// How many values a word takes.
-const WORDS: u64 = 1 << 32;
 
 // XTEA under one key.
 #[derive(Drop)]
@@ -36,7 +33,7 @@ impl Xtea {
             return Err(KeyFault::Length);
         }
         Ok(Xtea {
-            key: [word(key, 0), word(key, 4), word(key, 8), word(key, 12)],
+            key: words(key),
             allowance: Allowance::new(left),
         })
     }
@@ -66,12 +63,13 @@ impl Engine for Xtea {
     }
 }
 
-// The word in four bytes from the i-th on, high byte first.
-fn word(bytes: &[u8], i: usize) -> u32
-    requires { i + 4 ≤ length bytes.now }
-    ensures { result ≡ word_of bytes.now i }
+// The words of a key of 16 bytes, high byte first.
+fn words(key: &[u8]) -> [u32; 4]
+    requires { length key.now ≡ 16 }
+    ensures { result ≡ words key.now }
 {
-    u32::from_be_bytes([bytes[i], bytes[i + 1], bytes[i + 2], bytes[i + 3]])
+    let (words, _) = key.as_chunks::<4>();
+    array::from_fn(|i| u32::from_be_bytes(words[i]))
 }
 
 // A block's two words, the higher first.
@@ -79,7 +77,7 @@ fn split(block: Block64) -> (u32, u32)
     ensures { result ≡ halves block }
 {
     let value = block.value();
-    ((value / WORDS) as u32, (value % WORDS) as u32)
+    ((value >> 32) as u32, (value % (1 << 32)) as u32)
 }
 
 // The block of two words.
@@ -87,7 +85,7 @@ fn join(words: (u32, u32)) -> Block64
     ensures { result ≡ joined words }
 {
     let (v, w) = words;
-    Block64::new(v as u64 * WORDS + w as u64)
+    Block64::new((u64::from(v) << 32) | u64::from(w))
 }
 
 // The definition gives the published example.
