@@ -22,7 +22,11 @@ length_spelled (high ∷ []) n h = absurd (omega arith)
 length_spelled (high ∷ low ∷ digits) zero h = absurd (omega arith)
 length_spelled (high ∷ low ∷ digits) (suc n) h = ap suc (length_spelled digits n (omega arith))
 
-spelled_at : (digits : List ℕ) (k : ℕ) → 2 * k + 1 < length digits → get_or (spelled digits) k 0 ≡ get_or digits (2 * k) 0 * 16 + get_or digits (2 * k + 1) 0
+-- the byte of the digits 2 * k and 2 * k + 1
+abbrev byte_at : List ℕ → ℕ → ℕ
+byte_at digits k = get_or digits (2 * k) 0 * 16 + get_or digits (2 * k + 1) 0
+
+spelled_at : (digits : List ℕ) (k : ℕ) → 2 * k + 1 < length digits → get_or (spelled digits) k 0 ≡ byte_at digits k
 spelled_at [] k h = absurd (omega arith)
 spelled_at (high ∷ []) k h = absurd (omega arith)
 spelled_at (high ∷ low ∷ digits) zero h = refl
@@ -31,14 +35,13 @@ spelled_at (high ∷ low ∷ digits) (suc k) h =
     rw (e, add-one) (rw add-one at (spelled_at digits k (omega arith)))
 
 module _ {F : Type 0} (g : Mut F (ℕ × Unit {0}) ℕ) (f : F) (n : ℕ) (digits : List ℕ) where
-  -- a closure that gives the byte of the digits 2 * i and 2 * i + 1 at each i below n
+  -- a closure that gives byte i at each i below n
   abbrev pub GivesBytes : Type 0
-  GivesBytes = (i y : ℕ) (q : F) → i < n → Called g f (i, tt) y q → (y ≡ get_or digits (2 * i) 0 * 16 + get_or digits (2 * i + 1) 0) × (q ≡ f)
+  GivesBytes = (i y : ℕ) (q : F) → i < n → Called g f (i, tt) y q → (y ≡ byte_at digits i) × (q ≡ f)
 
   pub made_spelled : GivesBytes → length digits ≡ 2 * n → (bytes : List ℕ) → IsFromFnResult g f bytes n → bytes ≡ spelled digits
   made_spelled says size bytes made =
-      let long = length_spelled digits n size in
       let at = λ (k : ℕ) (h : k < length bytes).
-      rw zero-add at (made_at g f n (λ i. get_or digits (2 * i) 0 * 16 + get_or digits (2 * i + 1) 0) says bytes 0 n k (omega arith) made.each (omega (arith, made.long)))
+      rw zero-add at (made_at g f n (byte_at digits) says bytes 0 n k (omega arith) made.each (omega (arith, made.long)))
       ∙ sym (spelled_at digits k (omega (arith, made.long))) in
-      same_number_lists bytes (spelled digits) (made.long ∙ sym long) at
+      same_number_lists bytes (spelled digits) (made.long ∙ sym (length_spelled digits n size)) at
