@@ -1,4 +1,3 @@
-pub mod Spelled
-pub mod Typed
+pub mod Made
 pub mod Texts
 pub mod Judged

@@ -1,5 +1,6 @@
 -- Hexadecimal digits, and the bytes that they spell. Assumes nothing.
-use Rattle.std.specs.Prelude.{ℕ, ◌+◌, ◌-◌, ◌*◌, ◌/◌, ◌%◌, Bool, false, cond, List, [], ◌∷◌, Some, None, Option, nat_le}
+use Rattle.std.specs.Prelude.{ℕ, ◌+◌, ◌-◌, ◌*◌, ◌<◌, Bool, false, cond, List, [], ◌∷◌, Some, None, Option, nat_le}
+use Rattle.std.specs.List.{All}
 
 abbrev pub within : ℕ → ℕ → ℕ → Bool
 within low high c = cond (nat_le low c) (nat_le c high) false
@@ -16,7 +17,6 @@ spelled [] = []
 spelled (high ∷ []) = []
 spelled (high ∷ low ∷ digits) = (high * 16 + low) ∷ spelled digits
 
--- the digits of bytes
-abbrev pub halves : List ℕ → List ℕ
-halves [] = []
-halves (byte ∷ bytes) = byte / 16 ∷ byte % 16 ∷ halves bytes
+-- each is a digit's value
+abbrev pub AllDigits : List ℕ → Type 0
+AllDigits digits = All (λ d. d < 16) digits

@@ -1,26 +1,75 @@
-// What an entry holds.
-ghost use Rattle.std.specs.Prelude.{◌≡◌, true, length};
-ghost use Rattle.keys.specs.States.{keeps};
+// The digits of a key as they are typed in.
+ghost use Rattle.std.specs.Prelude.{◌≡◌, ◌≤◌, [], length, OnErr};
+ghost use Rattle.std.specs.Str.{chars};
+ghost use Rattle.keys.specs.Digits.{digit_of};
+ghost use Rattle.keys.specs.Entries.{after, answer, taken};
+ghost use Rattle.keys.specs.Keys.{key_after, concluded};
+
+use crate::{EntryFault, digit_of};
+use arrayvec::ArrayVec;
+use std::array;
+use std::marker::Model;
 
 pub const KEY_BYTES: usize = 16;
 
-// How far the next byte is typed in.
-#[derive(Drop)]
-pub(crate) enum State {
-    // Its first digit is awaited.
-    Waiting,
-    // Its first digit, the high half, is here.
-    Holding(u8),
-    // No byte is left to type in.
-    Complete,
-}
+// Two to a byte.
+const KEY_DIGITS: usize = 2 * KEY_BYTES;
 
-// A key of 16 bytes as it is typed in, of which the first `count` are here. It is never shown.
+// A key of 16 bytes as it is typed in: the digits typed so far. It is never shown.
 #[derive(Drop)]
 pub struct Entry {
-    pub(crate) state: State,
-    pub(crate) count: usize,
-    pub(crate) bytes: [u8; KEY_BYTES],
-    ghost sized: { length bytes ≡ 16 },
-    ghost sound: { keeps 16 state count ≡ true },
+    digits: ArrayVec<u8, KEY_DIGITS>,
+}
+
+impl Model for Entry {
+    ghost use Rattle.std.specs.Prelude.{ℕ, List};
+    ghost use Rattle.keys.specs.Digits.{AllDigits};
+
+    ghost Value = { List ℕ };
+
+    ghost view = { λ e. e.digits.items };
+
+    ghost invariant = { λ e. AllDigits e.digits.items };
+}
+
+impl Entry {
+    // An entry with no digit typed.
+    pub fn new() -> Self
+        ensures { result ≡ [] }
+    {
+        Entry {
+            digits: ArrayVec::new(),
+        }
+    }
+
+    // Types one character: one digit more, unless it is no digit or all digits are there already.
+    pub fn push(&mut self, c: char) -> Result<(), EntryFault>
+        ensures answer { result ≡ answer 16 self.old (digit_of c) }
+        ensures after { self.new ≡ after 16 self.old (digit_of c) }
+        ensures unaltered { OnErr result (self.new ≡ self.old) }
+    {
+        let digit = digit_of(c).ok_or(EntryFault::NoDigit)?;
+        self.digits.try_push(digit).map_err(|_| EntryFault::Full)
+    }
+
+    // The key that the digits spell, once all are typed.
+    pub fn key(&self) -> Result<[u8; KEY_BYTES], EntryFault>
+        ensures { result ≡ taken 16 self.now }
+    {
+        if !self.digits.is_full() {
+            return Err(EntryFault::Incomplete);
+        }
+        Ok(array::from_fn(|i| self.digits[2 * i] * 16 + self.digits[2 * i + 1]))
+    }
+
+    // Types a text, up to the first character that is refused.
+    pub(crate) fn type_in(&mut self, text: &str) -> Result<(), EntryFault>
+        requires { length self.old ≤ 32 }
+        ensures { concluded 16 result self.new ≡ key_after 16 self.old (chars text.now) }
+    {
+        for c in text.chars() {
+            self.push(c)?;
+        }
+        Ok(())
+    }
 }

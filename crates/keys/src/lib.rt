@@ -4,57 +4,14 @@
 mod digit;
 mod entry;
 mod fault;
-mod steps;
 
-ghost use Rattle.std.specs.Prelude.{◌≡◌, ℕ, []};
+ghost use Rattle.std.specs.Prelude.{◌≡◌, ℕ};
 ghost use Rattle.std.specs.Str.{chars};
-ghost use Rattle.keys.specs.Digits.{digit_of};
-ghost use Rattle.keys.specs.Entries.{typed, after, answer, taken, Unaltered};
-ghost use Rattle.keys.specs.Keys.{key_of, key_after, concluded, Verdicts};
+ghost use Rattle.keys.specs.Keys.{key_of, Verdicts};
 
 pub use digit::digit_of;
-use entry::State;
 pub use entry::{Entry, KEY_BYTES};
 pub use fault::EntryFault;
-
-impl Entry {
-    // An entry with no digit typed.
-    pub fn new() -> Self
-        ensures { typed result ≡ [] }
-    {
-        Entry {
-            state: State::Waiting,
-            count: 0,
-            bytes: [0; KEY_BYTES],
-        }
-    }
-
-    // Types one character: one digit more, unless it is no digit or all digits are there already.
-    pub fn push(&mut self, c: char) -> Result<(), EntryFault>
-        ensures answer { result ≡ answer 16 (typed self.old) (digit_of c) }
-        ensures after { typed self.new ≡ after 16 (typed self.old) (digit_of c) }
-        ensures unaltered { Unaltered result self.old self.new }
-    {
-        self.step(c)
-    }
-
-    // The key that the digits spell, once all are typed.
-    pub fn key(&self) -> Result<[u8; KEY_BYTES], EntryFault>
-        ensures { result ≡ taken 16 (typed self.now) }
-    {
-        self.held()
-    }
-
-    // Types a text, up to the first character that is refused.
-    fn type_in(&mut self, text: &str) -> Result<(), EntryFault>
-        ensures { concluded 16 result (typed self.new) ≡ key_after 16 (typed self.old) (chars text.now) }
-    {
-        for c in text.chars() {
-            self.push(c)?;
-        }
-        Ok(())
-    }
-}
 
 // The key that a text spells, typed character by character.
 pub fn key_from(text: &str) -> Result<[u8; KEY_BYTES], EntryFault>

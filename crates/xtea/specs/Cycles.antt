@@ -12,13 +12,17 @@ minus a b = (a + (2 ^ 32 - b)) % 2 ^ 32
 abbrev pub mixed : ℕ → ℕ
 mixed z = plus (bit_xor (z * 2 ^ 4 % 2 ^ 32) (z / 2 ^ 5)) z
 
--- what a cycle adds to v: f(w) ⊕ (s + K[s mod 4])
-abbrev pub on_first : List ℕ → ℕ → ℕ → ℕ
-on_first key s w = bit_xor (mixed w) (plus s (slice_index key (s % 4)))
+-- what a cycle adds to a word, from the other word z and a word k of the key: f(z) ⊕ (s + k)
+abbrev pub added : ℕ → ℕ → ℕ → ℕ
+added z s k = bit_xor (mixed z) (plus s k)
 
--- what it then adds to w: f(v) ⊕ (s + K[floor(s / 2048) mod 4])
+-- to v: f(w) ⊕ (s + K[s mod 4])
+abbrev pub on_first : List ℕ → ℕ → ℕ → ℕ
+on_first key s w = added w s (slice_index key (s % 4))
+
+-- and then to w: f(v) ⊕ (s + K[floor(s / 2048) mod 4])
 abbrev pub on_second : List ℕ → ℕ → ℕ → ℕ
-on_second key s v = bit_xor (mixed v) (plus s (slice_index key (s / 2048 % 4)))
+on_second key s v = added v s (slice_index key (s / 2048 % 4))
 
 -- s before cycle i: from 0, each cycle adds 9E3779B9 hex
 abbrev pub sum : ℕ → ℕ

@@ -1,10 +1,8 @@
 -- XTEA with 32 cycles on blocks of 64 bits, under a key of 16 bytes. Assumes nothing.
 use Rattle.std.specs.Prelude.{◌≡◌, ℕ, ◌+◌, ◌*◌, ◌/◌, ◌%◌, ◌^◌, cond, List, [], ◌∷◌, length, Ok, Err, Result, ◌==◌, slice_index}
-use Rattle.block.specs.Blocks.{make64}
-use Rattle.block.specs.Blocks.{Block64}
-use Rattle.engine.specs.Meaning.{Meaning}
+use Rattle.block.specs.Blocks.{Block64, make64}
+use Rattle.engine.specs.Meaning.{Maps, Meaning, metered}
 use Rattle.engine.specs.Refusals.{Refusal}
-use Rattle.xtea.specs.declared.Xtea.{Xtea}
 use Rattle.xtea.specs.Cycles.{Words, enciphered, deciphered}
 
 -- a block's words, the higher first, and the block of two words
@@ -28,9 +26,12 @@ word bytes i = ((slice_index bytes i * 256 + slice_index bytes (i + 1)) * 256 + 
 abbrev pub words : List ℕ → List ℕ
 words bytes = word bytes 0 ∷ word bytes 4 ∷ word bytes 8 ∷ word bytes 12 ∷ []
 
--- both ways under the words of a key
+-- both ways under the words of a key, and with so many operations left
+abbrev pub under : List ℕ → Maps Block64
+under key = record { enc = enciphered64 key; dec = deciphered64 key }
+
 abbrev pub keyed : List ℕ → ℕ → Meaning Block64
-keyed key left = record { enc = enciphered64 key; dec = deciphered64 key; left = left }
+keyed key left = metered (under key) left
 
 -- XTEA under a key's bytes, with `left` operations left
 abbrev pub xtea : List ℕ → ℕ → Meaning Block64
@@ -39,10 +40,6 @@ xtea bytes left = keyed (words bytes) left
 -- what comes of a key: XTEA where it has 16 bytes, else refusal 1
 abbrev pub made : List ℕ → ℕ → Result (Meaning Block64) Refusal
 made bytes left = cond (length bytes == 16) (Ok (xtea bytes left)) (Err (record { number = 1; told = [] }))
-
--- what an engine means
-abbrev pub meant : Xtea → Meaning Block64
-meant e = keyed e.key e.allowance.left
 
 -- the published example: key 00 01 .. 0F, block ABCDEFGH
 abbrev pub Published : Type 0

@@ -1,28 +1,15 @@
 // XTEA on two words, over any number of cycles.
 ghost use Rattle.std.specs.Prelude.{◌≡◌};
-ghost use Rattle.xtea.specs.Cycles.{mixed, on_first, on_second, enciphered, deciphered, Undone};
+ghost use Rattle.xtea.specs.Cycles.{added, enciphered, deciphered, Undone};
 
 // What each cycle adds to the sum s.
 const DELTA: u32 = 0x9E37_79B9;
 
-fn mix(z: u32) -> u32
-    ensures { result ≡ mixed z }
+// What a cycle adds to a word, from the other word z and a word of the key.
+fn mix(z: u32, s: u32, key_word: u32) -> u32
+    ensures { result ≡ added z s key_word }
 {
-    ((z << 4) ^ (z >> 5)).wrapping_add(z)
-}
-
-// What a cycle adds to the first word, from the second.
-fn on_first(key: &[u32; 4], s: u32, w: u32) -> u32
-    ensures { result ≡ on_first key.now s w }
-{
-    mix(w) ^ s.wrapping_add(key[(s % 4) as usize])
-}
-
-// What a cycle adds to the second word, from the first.
-fn on_second(key: &[u32; 4], s: u32, v: u32) -> u32
-    ensures { result ≡ on_second key.now s v }
-{
-    mix(v) ^ s.wrapping_add(key[((s >> 11) % 4) as usize])
+    ((z << 4) ^ (z >> 5)).wrapping_add(z) ^ s.wrapping_add(key_word)
 }
 
 pub(crate) fn encipher(key: &[u32; 4], cycles: u32, block: (u32, u32)) -> (u32, u32)
@@ -30,10 +17,10 @@ pub(crate) fn encipher(key: &[u32; 4], cycles: u32, block: (u32, u32)) -> (u32, 
 {
     let (mut v, mut w) = block;
     let mut s: u32 = 0;
-    for _i in 0..cycles {
-        v = v.wrapping_add(on_first(key, s, w));
+    for _ in 0..cycles {
+        v = v.wrapping_add(mix(w, s, key[(s % 4) as usize]));
         s = s.wrapping_add(DELTA);
-        w = w.wrapping_add(on_second(key, s, v));
+        w = w.wrapping_add(mix(v, s, key[((s >> 11) % 4) as usize]));
     }
     (v, w)
 }
@@ -43,10 +30,10 @@ pub(crate) fn decipher(key: &[u32; 4], cycles: u32, block: (u32, u32)) -> (u32, 
 {
     let (mut v, mut w) = block;
     let mut s: u32 = DELTA.wrapping_mul(cycles);
-    for _i in (0..cycles).rev() {
-        w = w.wrapping_sub(on_second(key, s, v));
+    for _ in (0..cycles).rev() {
+        w = w.wrapping_sub(mix(v, s, key[((s >> 11) % 4) as usize]));
         s = s.wrapping_sub(DELTA);
-        v = v.wrapping_sub(on_first(key, s, w));
+        v = v.wrapping_sub(mix(w, s, key[(s % 4) as usize]));
     }
     (v, w)
 }

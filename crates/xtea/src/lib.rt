@@ -3,74 +3,62 @@
 
 mod cycles;
 
-ghost use Rattle.std.specs.Prelude.{◌≡◌, ◌+◌, ◌≤◌, length};
-ghost use Rattle.xtea.specs.Xtea.{halves, joined, made, meant, Published};
-ghost use Rattle.xtea.specs.Xtea.{word as word_of};
+ghost use Rattle.std.specs.Prelude.{◌≡◌, length};
+ghost use Rattle.xtea.specs.Xtea.{halves, joined, made, under, words, Published};
 ghost use Rattle.xtea.specs.Blocks;
-ghost use Rattle.std.proofs.Common.{rules};
 
 use block::Block64;
 pub use cycles::cycles_undo;
-use engine::{Allowance, Engine, EngineFault, KeyFault, Keyed};
+use engine::{Cipher, KeyFault, KeyedCipher, Metered};
+use std::array;
 
 const KEY_BYTES: usize = 16;
 
 const CYCLES: u32 = 32;
 
-// How many values a word takes.
-const WORDS: u128 = 1 << 32;
-
-// XTEA under one key.
+// The words of one key, and XTEA under it.
 #[derive(Drop)]
-pub struct Xtea {
+pub struct KeyWords {
     key: [u32; 4],
-    allowance: Allowance,
 }
 
-impl Engine for Xtea {
+// The engine.
+pub type Xtea = Metered<KeyWords>;
+
+impl Cipher for KeyWords {
     type Block = Block64;
 
-    ghost means = { meant };
+    ghost maps = { λ c. under c.key };
 
-    ghost undoes = { λ e. Blocks.undoes e.key e.allowance.left };
+    ghost undoes = { λ c left. Blocks.undoes c.key left };
 
-    ghost bounded = { Prim.search rules };
-
-    fn left(&self) -> u32 {
-        self.allowance.left()
+    fn encipher(&self, block: Block64) -> Block64 {
+        join(cycles::encipher(&self.key, CYCLES, split(block)))
     }
 
-    fn encipher(&mut self, block: Block64) -> Result<Block64, EngineFault> {
-        self.allowance.spend()?;
-        Ok(join(cycles::encipher(&self.key, CYCLES, split(block))))
-    }
-
-    fn decipher(&mut self, block: Block64) -> Result<Block64, EngineFault> {
-        self.allowance.spend()?;
-        Ok(join(cycles::decipher(&self.key, CYCLES, split(block))))
+    fn decipher(&self, block: Block64) -> Block64 {
+        join(cycles::decipher(&self.key, CYCLES, split(block)))
     }
 }
 
-impl Keyed for Xtea {
+impl KeyedCipher for KeyWords {
     ghost made = { made };
 
-    fn new(key: &[u8], left: u32) -> Result<Self, KeyFault> {
+    fn with_key(key: &[u8]) -> Result<Self, KeyFault> {
         if key.len() != KEY_BYTES {
             return Err(KeyFault::Length);
         }
-        Ok(Xtea {
-            key: [word(key, 0), word(key, 4), word(key, 8), word(key, 12)],
-            allowance: Allowance::new(left),
-        })
+        Ok(KeyWords { key: words(key) })
     }
 }
 
-// The word in four bytes from the i-th on, high byte first.
-fn word(bytes: &[u8], i: usize) -> u32
-    requires { i + 4 ≤ length bytes.now }
-    ensures { result ≡ word_of bytes.now i }
+// The words of a key of 16 bytes, high byte first.
+fn words(key: &[u8]) -> [u32; 4]
+    requires { length key.now ≡ 16 }
+    ensures { result ≡ words key.now }
 {
-    u32::from_be_bytes([bytes[i], bytes[i + 1], bytes[i + 2], bytes[i + 3]])
+    let (words, _) = key.as_chunks::<4>();
+    array::from_fn(|i| u32::from_be_bytes(words[i]))
 }
 
 // A block's two words, the higher first.
@@ -78,7 +66,7 @@ fn split(block: Block64) -> (u32, u32)
     ensures { result ≡ halves block }
 {
     let value = block.value();
-    ((value / WORDS) as u32, (value % WORDS) as u32)
+    ((value >> 32) as u32, (value % (1 << 32)) as u32)
 }
 
 // The block of two words.
@@ -86,7 +74,7 @@ fn join(words: (u32, u32)) -> Block64
     ensures { result ≡ joined words }
 {
     let (v, w) = words;
-    Block64::new(v as u128 * WORDS + w as u128)
+    Block64::new((u128::from(v) << 32) + u128::from(w))
 }
 
 // The definition gives the published example.
@@ -97,7 +85,7 @@ pub fn published_example()
 #[cfg(test)]
 mod tests {
     use super::*;
-    use engine::{Cap, Cascade, Complement, Mask};
+    use engine::{Cap, Cascade, Complement, Engine, Keyed, Mask};
     use std::test::Fail;
 
     const COUNTING: u128 = 0x00010203_04050607_08090A0B_0C0D0E0F;
