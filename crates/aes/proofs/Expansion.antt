@@ -1,24 +1,19 @@
 -- The key expansion on words. Assumes nothing.
-use Rattle.std.proofs.Common.{◌≡◌, ℕ, zero, suc, ◌+◌, ◌-◌, ◌*◌, ◌/◌, ◌%◌, ◌^◌, ◌<◌, ◌≤◌, cond, eqb, List, [], ◌∷◌, ◌++◌, map, length, get_or, take, set, sym, refl, ap, ◌∙◌, ap₂, add-zero, zero-add, add-one, arith}
+use Rattle.std.proofs.Common.{◌≡◌, ℕ, zero, suc, ◌+◌, ◌-◌, ◌*◌, ◌/◌, ◌%◌, ◌^◌, ◌<◌, ◌≤◌, cond, eqb, List, [], ◌∷◌, ◌++◌, map, reverse, length, get_or, take, drop, set, sym, refl, ap, ◌∙◌, ap₂, append_assoc, drop-cons, add-zero, zero-add, add-one, arith}
 use lib.Bits.{bit_xor, bit_or, or_shifted}
+use mathlib.Core.List.{reverse_aux}
+use Rattle.std.specs.Simd.{first_chunks}
 use Rattle.std.proofs.lemmas.Nat.{shr-shr, field_of}
-use Rattle.std.proofs.lemmas.List.{get_or-take, take_more_set, map-append}
-use Rattle.aes.specs.SBox.{s_box, inv_s_box}
-use Rattle.aes.specs.State.{Column, column, columns, State, each, listed, word_at}
-use Rattle.aes.specs.Cipher.{plus, inv_mix_column, Keys}
+use Rattle.std.proofs.lemmas.List.{get_or-take, get_or-drop, drop-set-lt, take_more_set, map-append}
+use Rattle.aes.specs.State.{Column, State, column, listed, word_at}
+use Rattle.aes.specs.Cipher.{plus, Keys}
 use Rattle.aes.specs.Schedule.{sub_word, rot_word, power, rcon, none, taken, expansion, round_key, keys_of, key_words, key_schedule}
-use Rattle.aes.specs.Words.{packed, unpacked, state_of, four, unmixing0, unmixing1, mixed_word, plain_word, unmixed_word}
-use Rattle.aes.specs.Keyed.{key_of}
-use Rattle.aes.specs.declared.key.RoundKey.{RoundKey}
+use Rattle.aes.specs.Words.{packed, unpacked, state_of}
+use Rattle.aes.specs.declared.words.Words.{Words}
 use Rattle.aes.specs.FieldLemmas.{xtime_lt}
-use Rattle.aes.specs.Substitution.{sub_lt, inv_sub_lt, boxes_undo}
-use Rattle.aes.specs.Undo.{each_undone}
-use Rattle.aes.specs.Pack.{byte_of_byte, byte_of_half, byte_of_three, unpacked_packed, unpacked_xor, plus_none, packed_unpacked, unpacked_bytes, mixed_column, plain_column}
+use Rattle.aes.specs.Pack.{byte_of_byte, byte_of_half, byte_of_three, unpacked_packed, unpacked_xor}
 
 -- ---- words
-
-pub sub_word_lem : (t r : ℕ) → r ≡ plain_word s_box t t t t 0 → unpacked r ≡ sub_word (unpacked t)
-sub_word_lem t r e = ap unpacked e ∙ plain_column s_box sub_lt t t t t 0 ∙ plus_none (each s_box (unpacked t))
 
 power_lt : (j : ℕ) → power j < 256
 unfolding power
@@ -74,11 +69,14 @@ get_or_unpacked (x ∷ l) (suc j) = get_or_unpacked l j
 pub set_end : (w : List ℕ) (i r : ℕ) → i < length w → map unpacked (take (i + 1) (set w i r)) ≡ map unpacked (take i w) ++ (unpacked r ∷ [])
 set_end w i r h = ap (map unpacked) (take_more_set w i r h) ∙ map-append unpacked (take i w) (r ∷ [])
 
-pub round_key_lem : (w : List ℕ) (r : ℕ) → state_of (four (get_or w (4 * r) 0) (get_or w (4 * r + 1) 0) (get_or w (4 * r + 2) 0) (get_or w (4 * r + 3) 0)) ≡ round_key (map unpacked w) r
-unfolding state_of
-round_key_lem w r =
-    let at : (j : ℕ) → unpacked (get_or w j 0) ≡ get_or (map unpacked w) j none = λ j. sym (get_or_unpacked w j) in
-    λ i. columns (at (4 * r) i) (at (4 * r + 1) i) (at (4 * r + 2) i) (at (4 * r + 3) i)
+-- word k of the whole is word j of chunk r
+pub chunk_word : (n : ℕ) (w : List ℕ) (r j k : ℕ) → r < n → j < 4 → k ≡ 4 * r + j → unpacked (get_or (get_or (first_chunks 4 n w) r []) j 0) ≡ get_or (map unpacked w) k none
+chunk_word n w r j k hr hj e = ap unpacked (word_of n w r j k hr hj e) ∙ sym (get_or_unpacked w k)
+  where
+    word_of : (n : ℕ) (w : List ℕ) (r j k : ℕ) → r < n → j < 4 → k ≡ 4 * r + j → get_or (get_or (first_chunks 4 n w) r []) j 0 ≡ get_or w k 0
+    word_of zero w r j k hr hj e = absurd (omega arith)
+    word_of (suc n) w zero j k hr hj e = get_or-take 4 w j 0 hj ∙ ap (λ i. get_or w i 0) (omega arith)
+    word_of (suc n) w (suc r) j k hr hj e = word_of n (drop 4 w) r j (4 * r + j) (omega arith) hj (omega arith) ∙ get_or-drop 4 w (4 * r + j) 0 ∙ ap (λ i. get_or w i 0) (omega arith)
 
 -- ---- the loops
 
@@ -112,24 +110,30 @@ expanded nk i w key t pos le lt inv et =
     ∙ ap₂ (λ l x. l ++ (x ∷ [])) inv (unpacked_xor (get_or w n 0) t ∙ ap₂ plus old t') ∙ sym (ap (λ m. expansion nk m key) step)
 
 -- one round key more
-pub pushed : (f : ℕ → State) (ks : List RoundKey) (i : ℕ) (k : RoundKey) → i < length ks → map key_of (take i ks) ≡ listed f i 1 → key_of k ≡ f (i + 1)
-    → map key_of (take (i + 1) (set ks i k)) ≡ listed f (i + 1) 1
+pub pushed : (f : ℕ → State) (ks : List Words) (i : ℕ) (k : Words) → i < length ks → map state_of (take i ks) ≡ listed f i 1 → state_of k ≡ f (i + 1)
+    → map state_of (take (i + 1) (set ks i k)) ≡ listed f (i + 1) 1
 pushed f ks i k h inv e =
     let next : i + 1 ≡ 1 + i = omega arith in
-    ap (map key_of) (take_more_set ks i k h) ∙ map-append key_of (take i ks) (k ∷ [])
+    ap (map state_of) (take_more_set ks i k h) ∙ map-append state_of (take i ks) (k ∷ [])
     ∙ ap₂ (λ l x. l ++ (x ∷ [])) inv (e ∙ ap f next) ∙ sym (listed_end f i 1) ∙ ap (λ n. listed f n 1) (sym (add-one i))
 
--- InvMixColumns by the tables
-pub unmix_word : (w s r : ℕ) → r < 2 ^ 32 → s ≡ plain_word s_box w w w w 0 → r ≡ mixed_word unmixing0 unmixing1 s s s s 0 → r ≡ unmixed_word w
-unfolding unmixing0 unmixing1 unmixed_word
-unmix_word w s r h es er =
-    let back : each inv_s_box (unpacked s) ≡ unpacked w = ap (each inv_s_box) (sub_word_lem w s es) ∙ each_undone inv_s_box s_box boxes_undo.inv_sub (unpacked w) (unpacked_bytes w) in
-    let column_is : unpacked r ≡ inv_mix_column (unpacked w) =
-    ap unpacked er ∙ mixed_column 14 11 13 9 inv_s_box unmixing0 unmixing1 inv_sub_lt (λ x. refl) (λ x. refl) s s s s 0
-    ∙ plus_none (inv_mix_column (each inv_s_box (unpacked s))) ∙ ap inv_mix_column back in
-    sym (packed_unpacked r h) ∙ ap packed column_is
+-- one key more that became what f makes of it
+pub changed : (f : Words → State) (ks : List Words) (i : ℕ) (d k : Words) → i < length ks → state_of k ≡ f (get_or ks i d)
+    → map state_of (take (i + 1) (set ks i k)) ++ map f (drop (i + 1) (set ks i k)) ≡ map state_of (take i ks) ++ map f (drop i ks)
+changed f ks i d k h e =
+    let rest = map f (drop (i + 1) ks) in
+    ap₂ (λ l m. map state_of l ++ map f m) (take_more_set ks i k h) (drop-set-lt (i + 1) ks i k (omega arith))
+    ∙ ap (λ l. l ++ rest) (map-append state_of (take i ks) (k ∷ [])) ∙ append_assoc (map state_of (take i ks)) (state_of k ∷ []) rest
+    ∙ ap₂ (λ x n. map state_of (take i ks) ++ (x ∷ map f (drop n ks))) e (add-one i)
+    ∙ ap (λ l. map state_of (take i ks) ++ map f l) (sym (drop-cons ks i d h))
 
--- all of them
+map_onto : {A B : Type 0} (f : A → B) (l r : List A) → map f (reverse_aux l r) ≡ reverse_aux (map f l) (map f r)
+map_onto f [] r = refl
+map_onto f (x ∷ l) r = map_onto f l (x ∷ r)
+
+pub map_reverse : {A B : Type 0} (f : A → B) (l : List A) → map f (reverse l) ≡ reverse (map f l)
+map_reverse f l = map_onto f l []
+
 abbrev keys_as : State → List State → State → Keys
 keys_as x ks y = record { first = x; middle = ks; last = y }
 

@@ -4,7 +4,8 @@ ghost use Rattle.aes.specs.State.{word_at};
 ghost use Rattle.aes.specs.Schedule.{sub_word, rot_word, rcon, taken, expansion, key_words};
 ghost use Rattle.aes.specs.Words.{packed, unpacked};
 
-use crate::columns;
+use crate::columns::substituted;
+use crate::way::Forth;
 
 // The round constants 1 to 10, in row 0.
 const CONSTANTS: [u32; 10] = [
@@ -29,7 +30,7 @@ fn rot_word(t: u32) -> u32
 fn sub_word(t: u32) -> u32
     ensures { unpacked result ≡ sub_word (unpacked t) }
 {
-    columns::substituted(t, t, t, t, 0)
+    substituted::<Forth>(t.to_be_bytes())
 }
 
 // What word i takes in besides word i − nk, where t is word i − 1.

@@ -2,8 +2,12 @@
 ghost use Rattle.std.specs.Prelude.{◌≡◌};
 ghost use Rattle.block.specs.Width.{value_of, digits};
 ghost use Rattle.aes.specs.State.{state, bytes_in};
-ghost use Rattle.aes.specs.Cipher.{add_round_key};
-ghost use Rattle.aes.specs.Words.{state_of};
+ghost use Rattle.aes.specs.Cipher.{add_round_key, inv_mix_column, inv_mix_columns};
+ghost use Rattle.aes.specs.Ways.{mirror};
+ghost use Rattle.aes.specs.Words.{unpacked, state_of};
+
+use crate::columns::{mixed, substituted};
+use crate::way::{Back, Forth};
 
 #[derive(Clone, Copy)]
 pub(crate) struct Words {
@@ -15,6 +19,14 @@ pub(crate) struct Words {
 
 // One more than the highest word.
 const OVER: u128 = 0x1_0000_0000;
+
+// InvMixColumns at one column: the tables undo an S-box, so one is applied before them.
+fn unmixed_column(w: u32) -> u32
+    ensures { unpacked result ≡ inv_mix_column (unpacked w) }
+{
+    let s = substituted::<Forth>(w.to_be_bytes());
+    mixed::<Back>(s.to_be_bytes())
+}
 
 impl Words {
     // The state that the sixteen bytes of a number fill, high byte first.
@@ -47,6 +59,25 @@ impl Words {
             c1: self.c1 ^ key.c1,
             c2: self.c2 ^ key.c2,
             c3: self.c3 ^ key.c3,
+        }
+    }
+
+    // Column 0 stays, and the others stand the other way round.
+    pub(crate) fn mirrored(self) -> Self
+        ensures { state_of result ≡ mirror (state_of self) }
+    {
+        Words { c1: self.c3, c3: self.c1, ..self }
+    }
+
+    // The state after InvMixColumns.
+    pub(crate) fn unmixed(self) -> Self
+        ensures { state_of result ≡ inv_mix_columns (state_of self) }
+    {
+        Words {
+            c0: unmixed_column(self.c0),
+            c1: unmixed_column(self.c1),
+            c2: unmixed_column(self.c2),
+            c3: unmixed_column(self.c3),
         }
     }
 }
