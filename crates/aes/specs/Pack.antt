@@ -64,8 +64,8 @@ unpacked_xor u v =
     λ i. column (at 24 i) (at 16 i) (at 8 i) (xor_mod u v 8 i)
 
 -- a column, and the key's
-pub with_key : (f : Column → Column) (r k : ℕ) (j l : Column) → unpacked r ≡ f j → j ≡ l → unpacked (bit_xor r k) ≡ plus (f l) (unpacked k)
-with_key f r k j l er ej = unpacked_xor r k ∙ ap (λ z. plus z (unpacked k)) (er ∙ ap f ej)
+pub with_key : (f : Column → Column) (r k : ℕ) (j l : Column) → unpacked r ≡ f j → j ≡ l → unpacked (bit_xor k r) ≡ plus (f l) (unpacked k)
+with_key f r k j l er ej = ap unpacked (xor_comm k r) ∙ unpacked_xor r k ∙ ap (λ z. plus z (unpacked k)) (er ∙ ap f ej)
 
 abbrev pub four : ℕ → ℕ → ℕ → ℕ → Words
 four j k l m = record { c0 = j; c1 = k; c2 = l; c3 = m }

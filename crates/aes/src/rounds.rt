@@ -14,10 +14,10 @@ fn whole_round<W: Way>(x: Words, k: &Words) -> Words
     ensures { state_of result ≡ round W.steps (state_of x) (state_of k.now) }
 {
     Words {
-        c3: mixed::<W>(gathered(x.c3, x.c0, x.c1, x.c2)) ^ k.c3,
-        c2: mixed::<W>(gathered(x.c2, x.c3, x.c0, x.c1)) ^ k.c2,
-        c1: mixed::<W>(gathered(x.c1, x.c2, x.c3, x.c0)) ^ k.c1,
-        c0: mixed::<W>(gathered(x.c0, x.c1, x.c2, x.c3)) ^ k.c0,
+        c3: k.c3 ^ mixed::<W>(gathered(x.c3, x.c0, x.c1, x.c2)),
+        c2: k.c2 ^ mixed::<W>(gathered(x.c2, x.c3, x.c0, x.c1)),
+        c1: k.c1 ^ mixed::<W>(gathered(x.c1, x.c2, x.c3, x.c0)),
+        c0: k.c0 ^ mixed::<W>(gathered(x.c0, x.c1, x.c2, x.c3)),
     }
 }
 
@@ -26,10 +26,10 @@ fn last_round<W: Way>(x: Words, k: &Words) -> Words
     ensures { state_of result ≡ last_round W.steps (state_of x) (state_of k.now) }
 {
     Words {
-        c0: substituted::<W>(gathered(x.c0, x.c1, x.c2, x.c3)) ^ k.c0,
-        c1: substituted::<W>(gathered(x.c1, x.c2, x.c3, x.c0)) ^ k.c1,
-        c2: substituted::<W>(gathered(x.c2, x.c3, x.c0, x.c1)) ^ k.c2,
-        c3: substituted::<W>(gathered(x.c3, x.c0, x.c1, x.c2)) ^ k.c3,
+        c0: k.c0 ^ substituted::<W>(gathered(x.c0, x.c1, x.c2, x.c3)),
+        c1: k.c1 ^ substituted::<W>(gathered(x.c1, x.c2, x.c3, x.c0)),
+        c2: k.c2 ^ substituted::<W>(gathered(x.c2, x.c3, x.c0, x.c1)),
+        c3: k.c3 ^ substituted::<W>(gathered(x.c3, x.c0, x.c1, x.c2)),
     }
 }
 

@@ -15,8 +15,8 @@ pub(crate) trait Way {
         ensures { result ≡ steps.sub x };
 
     // What the byte x brings to a column through the S-box and the matrix: from row 0, and from row 1.
-    fn brought(x: u8) -> [u32; 2]
-        ensures { result ≡ brought steps x };
+    fn brought(x: u8) -> &'static [u32; 2]
+        ensures { result.now ≡ brought steps x };
 
     ghost bytes: { (x : ℕ) → x < 256 → steps.sub x < 256 };
 }
@@ -36,8 +36,8 @@ impl Way for Forth {
         SBOX[x as usize]
     }
 
-    fn brought(x: u8) -> [u32; 2] {
-        MIXING[x as usize]
+    fn brought(x: u8) -> &'static [u32; 2] {
+        &MIXING[x as usize]
     }
 }
 
@@ -50,7 +50,7 @@ impl Way for Back {
         INV_SBOX[x as usize]
     }
 
-    fn brought(x: u8) -> [u32; 2] {
-        UNMIXING[x as usize]
+    fn brought(x: u8) -> &'static [u32; 2] {
+        &UNMIXING[x as usize]
     }
 }
