@@ -10,7 +10,12 @@ use crate::way::Way;
 pub(crate) fn gathered(w: u32, x: u32, y: u32, z: u32) -> [u8; 4]
     ensures { word_at result 0 ≡ column (unpacked w).s0 (unpacked x).s1 (unpacked y).s2 (unpacked z).s3 }
 {
-    [w.to_be_bytes()[0], x.to_be_bytes()[1], y.to_be_bytes()[2], z.to_be_bytes()[3]]
+    [
+        w.to_be_bytes()[0],
+        x.to_be_bytes()[1],
+        y.to_be_bytes()[2],
+        z.to_be_bytes()[3],
+    ]
 }
 
 // The S-box and the matrix of a way. Rows 2 and 3 bring what rows 0 and 1 do, with the halves exchanged.
@@ -28,5 +33,10 @@ pub(crate) fn substituted<W: Way>(rows: [u8; 4]) -> u32
     ensures { unpacked result ≡ each W.steps.sub (word_at rows 0) }
 {
     let [a, b, c, d] = rows;
-    u32::from_be_bytes([W::substitute(a), W::substitute(b), W::substitute(c), W::substitute(d)])
+    u32::from_be_bytes([
+        W::substitute(a),
+        W::substitute(b),
+        W::substitute(c),
+        W::substitute(d),
+    ])
 }

@@ -3,7 +3,6 @@ ghost use Rattle.std.specs.Prelude.{◌≡◌, fold, map};
 ghost use Rattle.aes.specs.Ways.{round, last_round, through};
 ghost use Rattle.aes.specs.Words.{state_of, keys_of};
 
-
 use crate::columns::{gathered, mixed, substituted};
 use crate::way::Way;
 use crate::way_keys::WayKeys;
@@ -26,11 +25,12 @@ fn last_round<W: Way>(x: Words, k: &Words) -> Words
     ensures { state_of result ≡ last_round W.steps (state_of x) (state_of k.now) }
 {
     Words {
-        c0: k.c0 ^ substituted::<W>(gathered(x.c0, x.c1, x.c2, x.c3)),
-        c1: k.c1 ^ substituted::<W>(gathered(x.c1, x.c2, x.c3, x.c0)),
-        c2: k.c2 ^ substituted::<W>(gathered(x.c2, x.c3, x.c0, x.c1)),
-        c3: k.c3 ^ substituted::<W>(gathered(x.c3, x.c0, x.c1, x.c2)),
+        c0: substituted::<W>(gathered(x.c0, x.c1, x.c2, x.c3)),
+        c1: substituted::<W>(gathered(x.c1, x.c2, x.c3, x.c0)),
+        c2: substituted::<W>(gathered(x.c2, x.c3, x.c0, x.c1)),
+        c3: substituted::<W>(gathered(x.c3, x.c0, x.c1, x.c2)),
     }
+    .xor(k)
 }
 
 fn whole_rounds<W: Way>(keys: &[Words], mut x: Words) -> Words

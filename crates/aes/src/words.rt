@@ -66,7 +66,11 @@ impl Words {
     pub(crate) fn mirrored(self) -> Self
         ensures { state_of result ≡ mirror (state_of self) }
     {
-        Words { c1: self.c3, c3: self.c1, ..self }
+        Words {
+            c1: self.c3,
+            c3: self.c1,
+            ..self
+        }
     }
 
     // The state after InvMixColumns.
