@@ -2,6 +2,7 @@
 use Rattle.std.proofs.Common.{◌≡◌, ℕ, zero, suc, ◌+◌, ◌-◌, ◌*◌, ◌/◌, ◌%◌, ◌^◌, ◌<◌, ◌≤◌, cond, eqb, List, [], ◌∷◌, ◌++◌, map, reverse, length, get_or, take, drop, set, sym, refl, ap, ◌∙◌, ap₂, append_assoc, drop-cons, add-zero, zero-add, add-one, arith}
 use lib.Bits.{bit_xor, bit_or, or_shifted}
 use mathlib.Core.List.{reverse_aux}
+use Rattle.std.specs.Int.{w32, from_be_bytes}
 use Rattle.std.specs.Simd.{first_chunks}
 use Rattle.std.proofs.lemmas.Nat.{shr-shr, field_of}
 use Rattle.std.proofs.lemmas.List.{get_or-take, get_or-drop, drop-set-lt, take_more_set, map-append}
@@ -69,14 +70,24 @@ get_or_unpacked (x ∷ l) (suc j) = get_or_unpacked l j
 pub set_end : (w : List ℕ) (i r : ℕ) → i < length w → map unpacked (take (i + 1) (set w i r)) ≡ map unpacked (take i w) ++ (unpacked r ∷ [])
 set_end w i r h = ap (map unpacked) (take_more_set w i r h) ∙ map-append unpacked (take i w) (r ∷ [])
 
--- word k of the whole is word j of chunk r
+-- entry k of the whole is entry j of chunk r
+pub chunk_at : (n : ℕ) (l : List ℕ) (r j k : ℕ) → r < n → j < 4 → k ≡ 4 * r + j → get_or (get_or (first_chunks 4 n l) r []) j 0 ≡ get_or l k 0
+chunk_at zero l r j k hr hj e = absurd (omega arith)
+chunk_at (suc n) l zero j k hr hj e = get_or-take 4 l j 0 hj ∙ ap (λ i. get_or l i 0) (omega arith)
+chunk_at (suc n) l (suc r) j k hr hj e = chunk_at n (drop 4 l) r j (4 * r + j) (omega arith) hj (omega arith) ∙ get_or-drop 4 l (4 * r + j) 0 ∙ ap (λ i. get_or l i 0) (omega arith)
+
 pub chunk_word : (n : ℕ) (w : List ℕ) (r j k : ℕ) → r < n → j < 4 → k ≡ 4 * r + j → unpacked (get_or (get_or (first_chunks 4 n w) r []) j 0) ≡ get_or (map unpacked w) k none
-chunk_word n w r j k hr hj e = ap unpacked (word_of n w r j k hr hj e) ∙ sym (get_or_unpacked w k)
-  where
-    word_of : (n : ℕ) (w : List ℕ) (r j k : ℕ) → r < n → j < 4 → k ≡ 4 * r + j → get_or (get_or (first_chunks 4 n w) r []) j 0 ≡ get_or w k 0
-    word_of zero w r j k hr hj e = absurd (omega arith)
-    word_of (suc n) w zero j k hr hj e = get_or-take 4 w j 0 hj ∙ ap (λ i. get_or w i 0) (omega arith)
-    word_of (suc n) w (suc r) j k hr hj e = word_of n (drop 4 w) r j (4 * r + j) (omega arith) hj (omega arith) ∙ get_or-drop 4 w (4 * r + j) 0 ∙ ap (λ i. get_or w i 0) (omega arith)
+chunk_word n w r j k hr hj e = ap unpacked (chunk_at n w r j k hr hj e) ∙ sym (get_or_unpacked w k)
+
+pub word_of_chunk : (n : ℕ) (key : List ℕ) (i r : ℕ) → ((k : ℕ) → get_or key k 0 < 256) → i < n → r ≡ from_be_bytes w32 (get_or (first_chunks 4 n key) i []) → unpacked r ≡ word_at key i
+word_of_chunk n key i r bytes h e =
+    let b = λ (j : ℕ). get_or (get_or (first_chunks 4 n key) i []) j 0 in
+    let e0 : b 0 ≡ get_or key (4 * i) 0 = chunk_at n key i 0 (4 * i) h (omega arith) (omega arith) in
+    let e1 : b 1 ≡ get_or key (4 * i + 1) 0 = chunk_at n key i 1 (4 * i + 1) h (omega arith) (omega arith) in
+    let e2 : b 2 ≡ get_or key (4 * i + 2) 0 = chunk_at n key i 2 (4 * i + 2) h (omega arith) (omega arith) in
+    let e3 : b 3 ≡ get_or key (4 * i + 3) 0 = chunk_at n key i 3 (4 * i + 3) h (omega arith) (omega arith) in
+    ap unpacked e ∙ ap unpacked (λ j. packed (column (e0 j) (e1 j) (e2 j) (e3 j)))
+    ∙ unpacked_packed (word_at key i) (bytes (4 * i), bytes (4 * i + 1), bytes (4 * i + 2), bytes (4 * i + 3))
 
 -- ---- the loops
 

@@ -62,21 +62,13 @@ fn expand(nk: usize, w: &mut [u32])
     }
 }
 
-fn word_at(key: &[u8], i: usize) -> u32
-    requires { 4 * i + 4 ≤ length key.now }
-    ensures { unpacked result ≡ word_at key.now i }
-{
-    u32::from_be_bytes([key[4 * i], key[4 * i + 1], key[4 * i + 2], key[4 * i + 3]])
-}
-
 // Writes the words of the key to the front of w.
-fn load(nk: usize, key: &[u8], w: &mut [u32])
-    requires key_long { 4 * nk ≤ length key.now }
-    requires room { nk ≤ length w.old }
-    ensures { map unpacked (take nk w.new) ≡ key_words nk key.now }
+fn load(key: &[u8], w: &mut [u32])
+    requires { length key.now / 4 ≤ length w.old }
+    ensures { map unpacked (take (length key.now / 4) w.new) ≡ key_words (length key.now / 4) key.now }
 {
-    for i in 0..nk {
-        w[i] = word_at(key, i);
+    for (i, bytes) in key.as_chunks::<4>().0.iter().enumerate() {
+        w[i] = u32::from_be_bytes(*bytes);
     }
 }
 
@@ -86,7 +78,7 @@ pub(crate) fn words128(key: &[u8]) -> [u32; 44]
     ensures { map unpacked result ≡ expansion 4 40 (key_words 4 key.now) }
 {
     let mut w = [0; 44];
-    load(4, key, &mut w);
+    load(key, &mut w);
     expand(4, &mut w);
     w
 }
