@@ -1,5 +1,5 @@
 -- The key expansion on words. Assumes nothing.
-use Rattle.std.proofs.Common.{◌≡◌, ℕ, zero, suc, ◌+◌, ◌-◌, ◌*◌, ◌/◌, ◌%◌, ◌^◌, ◌<◌, ◌≤◌, cond, eqb, List, [], ◌∷◌, ◌++◌, map, reverse, length, get_or, take, drop, set, sym, refl, ap, ◌∙◌, ap₂, append_assoc, drop-cons, add-zero, zero-add, add-one, arith}
+use Rattle.std.proofs.Common.{◌≡◌, ℕ, zero, suc, ◌+◌, ◌-◌, ◌*◌, ◌/◌, ◌%◌, ◌^◌, ◌<◌, ◌≤◌, cond, eqb, List, [], ◌∷◌, ◌++◌, map, reverse, length, get_or, take, drop, set, sym, refl, ap, ◌∙◌, ap₂, append_assoc, drop-cons, add-zero, add-one, arith}
 use lib.Bits.{bit_xor, bit_or, or_shifted}
 use mathlib.Core.List.{reverse_aux}
 use Rattle.std.specs.Int.{w32, from_be_bytes}
@@ -57,7 +57,7 @@ taken_first nk i t s k z es ek =
 
 -- ---- lists
 
-pub listed_end : {A : Type 0} (f : ℕ → A) (n i : ℕ) → listed f (suc n) i ≡ listed f n i ++ (f (i + n) ∷ [])
+listed_end : {A : Type 0} (f : ℕ → A) (n i : ℕ) → listed f (suc n) i ≡ listed f n i ++ (f (i + n) ∷ [])
 listed_end f zero i = ap (λ k. f k ∷ []) (sym (add-zero i))
 listed_end f (suc n) i = ap (λ l. f i ∷ l) (listed_end f n (suc i) ∙ ap (λ k. listed f n (suc i) ++ (f k ∷ [])) (omega arith))
 
@@ -66,9 +66,14 @@ get_or_unpacked [] j = refl
 get_or_unpacked (x ∷ l) zero = refl
 get_or_unpacked (x ∷ l) (suc j) = get_or_unpacked l j
 
--- one word more at the end of those that are right
-pub set_end : (w : List ℕ) (i r : ℕ) → i < length w → map unpacked (take (i + 1) (set w i r)) ≡ map unpacked (take i w) ++ (unpacked r ∷ [])
-set_end w i r h = ap (map unpacked) (take_more_set w i r h) ∙ map-append unpacked (take i w) (r ∷ [])
+-- one entry more at the end of those that are right
+set_end : {A B : Type 0} (v : A → B) (xs : List A) (i : ℕ) (x : A) → i < length xs → map v (take (i + 1) (set xs i x)) ≡ map v (take i xs) ++ (v x ∷ [])
+set_end v xs i x h = ap (map v) (take_more_set xs i x h) ∙ map-append v (take i xs) (x ∷ [])
+
+pub filled : {A B : Type 0} (v : A → B) (f : ℕ → B) (xs : List A) (s i : ℕ) (x : A) → i < length xs → map v (take i xs) ≡ listed f i s → v x ≡ f (s + i)
+    → map v (take (i + 1) (set xs i x)) ≡ listed f (i + 1) s
+filled v f xs s i x h inv e =
+    set_end v xs i x h ∙ ap₂ (λ l y. l ++ (y ∷ [])) inv e ∙ sym (listed_end f i s) ∙ ap (λ n. listed f n s) (sym (add-one i))
 
 -- entry k of the whole is entry j of chunk r
 pub chunk_at : (n : ℕ) (l : List ℕ) (r j k : ℕ) → r < n → j < 4 → k ≡ 4 * r + j → get_or (get_or (first_chunks 4 n l) r []) j 0 ≡ get_or l k 0
@@ -91,12 +96,6 @@ word_of_chunk n key i r bytes h e =
 
 -- ---- the loops
 
-pub loaded : (key w : List ℕ) (i r : ℕ) → i < length w → map unpacked (take i w) ≡ listed (word_at key) i 0 → unpacked r ≡ word_at key i
-    → map unpacked (take (i + 1) (set w i r)) ≡ listed (word_at key) (i + 1) 0
-loaded key w i r h inv e =
-    set_end w i r h ∙ ap₂ (λ l k. l ++ (k ∷ [])) inv (e ∙ ap (word_at key) (sym (zero-add i)))
-    ∙ sym (listed_end (word_at key) i 0) ∙ ap (λ n. listed (word_at key) n 0) (sym (add-one i))
-
 pub start : (nk : ℕ) (key : List Column) → key ≡ expansion nk (nk - nk) key
 unfolding expansion
 start nk key = let e : nk - nk ≡ 0 = omega arith in sym (ap (λ n. expansion nk n key) e)
@@ -117,16 +116,8 @@ expanded nk i w key t pos le lt inv et =
     let old = seen w i n (omega arith) ∙ ap (λ l. get_or l n none) inv in
     let last = seen w i (i - 1) (omega arith) ∙ ap₂ (λ l m. get_or l (m - 1) none) inv (sym whole) in
     let t' = et ∙ ap₂ (taken nk) (sym whole) last in
-    set_end w i (bit_xor (get_or w n 0) t) lt
+    set_end unpacked w i (bit_xor (get_or w n 0) t) lt
     ∙ ap₂ (λ l x. l ++ (x ∷ [])) inv (unpacked_xor (get_or w n 0) t ∙ ap₂ plus old t') ∙ sym (ap (λ m. expansion nk m key) step)
-
--- one round key more
-pub pushed : (f : ℕ → State) (ks : List Words) (i : ℕ) (k : Words) → i < length ks → map state_of (take i ks) ≡ listed f i 1 → state_of k ≡ f (i + 1)
-    → map state_of (take (i + 1) (set ks i k)) ≡ listed f (i + 1) 1
-pushed f ks i k h inv e =
-    let next : i + 1 ≡ 1 + i = omega arith in
-    ap (map state_of) (take_more_set ks i k h) ∙ map-append state_of (take i ks) (k ∷ [])
-    ∙ ap₂ (λ l x. l ++ (x ∷ [])) inv (e ∙ ap f next) ∙ sym (listed_end f i 1) ∙ ap (λ n. listed f n 1) (sym (add-one i))
 
 -- one key more that became what f makes of it
 pub changed : (f : Words → State) (ks : List Words) (i : ℕ) (d k : Words) → i < length ks → state_of k ≡ f (get_or ks i d)

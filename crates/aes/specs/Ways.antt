@@ -1,6 +1,6 @@
 -- FIPS 197, section 5.3.5, the equivalent inverse cipher: the way back is the way forth with another S-box and another
 -- matrix, over mirrored columns and under keys made for it. Assumes nothing.
-use Rattle.std.specs.Prelude.{ℕ, List, fold, map, reverse}
+use Rattle.std.specs.Prelude.{ℕ, fold, map, reverse}
 use Rattle.aes.specs.SBox.{s_box, inv_s_box}
 use Rattle.aes.specs.State.{Column, State, columns, each, every}
 use Rattle.aes.specs.Cipher.{matrix, shift_rows, add_round_key, inv_mix_columns, Keys}

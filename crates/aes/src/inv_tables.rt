@@ -1,4 +1,4 @@
-// The tables of the way back. `boxes.rt` has their rules, which are checked at every entry.
+// The tables of the way back. `way.rt` has their rules, which are checked at every entry.
 // The inverse S-box.
 pub(crate) static INV_SBOX: [u8; 256] = [
     0x52, 0x09, 0x6a, 0xd5, 0x30, 0x36, 0xa5, 0x38, 0xbf, 0x40, 0xa3, 0x9e, 0x81, 0xf3, 0xd7, 0xfb,

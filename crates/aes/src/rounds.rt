@@ -8,7 +8,8 @@ use crate::way::Way;
 use crate::way_keys::WayKeys;
 use crate::words::Words;
 
-// The columns stand in falling order, in which the compiled round waits least for its table (docs/BENCHMARKS.md).
+// The columns stand in falling order, and in each the key first: so the compiled round waits least for its table
+// (docs/BENCHMARKS.md).
 fn whole_round<W: Way>(x: Words, k: &Words) -> Words
     ensures { state_of result ≡ round W.steps (state_of x) (state_of k.now) }
 {
@@ -24,13 +25,13 @@ fn whole_round<W: Way>(x: Words, k: &Words) -> Words
 fn last_round<W: Way>(x: Words, k: &Words) -> Words
     ensures { state_of result ≡ last_round W.steps (state_of x) (state_of k.now) }
 {
-    Words {
+    let shifted = Words {
         c0: substituted::<W>(gathered(x.c0, x.c1, x.c2, x.c3)),
         c1: substituted::<W>(gathered(x.c1, x.c2, x.c3, x.c0)),
         c2: substituted::<W>(gathered(x.c2, x.c3, x.c0, x.c1)),
         c3: substituted::<W>(gathered(x.c3, x.c0, x.c1, x.c2)),
-    }
-    .xor(k)
+    };
+    shifted ^ *k
 }
 
 fn whole_rounds<W: Way>(keys: &[Words], mut x: Words) -> Words
@@ -46,6 +47,6 @@ fn whole_rounds<W: Way>(keys: &[Words], mut x: Words) -> Words
 pub(crate) fn through<W: Way>(keys: &WayKeys, x: Words) -> Words
     ensures { state_of result ≡ through W.steps (keys_of keys.now) (state_of x) }
 {
-    let y = whole_rounds::<W>(&keys.middle, x.xor(&keys.first));
+    let y = whole_rounds::<W>(&keys.middle, x ^ keys.first);
     last_round::<W>(y, &keys.last)
 }

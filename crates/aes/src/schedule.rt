@@ -49,7 +49,7 @@ fn taken_in(nk: usize, i: usize, t: u32) -> u32
     }
 }
 
-// The first nk words of w are the key; the others are filled in.
+// The first nk words of w are the key; the others are filled in, by index, since each is made of two earlier ones.
 fn expand(nk: usize, w: &mut [u32])
     requires some { 0 < nk }
     requires key_in { nk ≤ length w.old }

@@ -1,4 +1,4 @@
-// The tables of the way forth. `boxes.rt` has their rules, which are checked at every entry.
+// The tables of the way forth. `way.rt` has their rules, which are checked at every entry.
 // The S-box.
 pub(crate) static SBOX: [u8; 256] = [
     0x63, 0x7c, 0x77, 0x7b, 0xf2, 0x6b, 0x6f, 0xc5, 0x30, 0x01, 0x67, 0x2b, 0xfe, 0xd7, 0xab, 0x76,

@@ -14,7 +14,8 @@ pub(crate) trait Way {
     fn substitute(x: u8) -> u8
         ensures { result ≡ steps.sub x };
 
-    // What the byte x brings to a column through the S-box and the matrix: from row 0, and from row 1.
+    // What the byte x brings to a column through the S-box and the matrix: from row 0, and from row 1. By reference,
+    // since the compiler copies two words that it hands over by value.
     fn brought(x: u8) -> &'static [u32; 2]
         ensures { result.now ≡ brought steps x };
 

@@ -1,4 +1,4 @@
-use Rattle.std.proofs.Common.{◌≡◌, ap, ◌∙◌}
+use Rattle.std.proofs.Common.{ap, ◌∙◌}
 use Rattle.aes.specs.State.{State, columns, each}
 use Rattle.aes.specs.Cipher.{add_round_key}
 use Rattle.aes.specs.Ways.{last_round}
@@ -13,4 +13,4 @@ returns g c =
     let c1 = c.substituted-2.ensures ∙ ap f c.gathered-2.ensures in
     let c2 = c.substituted-3.ensures ∙ ap f c.gathered-3.ensures in
     let c3 = c.substituted-4.ensures ∙ ap f c.gathered-4.ensures in
-    c.xor.ensures ∙ ap (λ (s : State). add_round_key s (state_of c.args.k.now)) (λ i. columns (c0 i) (c1 i) (c2 i) (c3 i))
+    c.bitxor.ensures ∙ ap (λ (s : State). add_round_key s (state_of c.args.k.now)) (λ i. columns (c0 i) (c1 i) (c2 i) (c3 i))

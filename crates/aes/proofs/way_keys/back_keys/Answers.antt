@@ -1,4 +1,4 @@
-use Rattle.std.proofs.Common.{◌≡◌, ◌++◌, [], map, reverse, take, drop, ap, ap₂, ◌∙◌, sym, arith, length-set, take_all, append-nil, refl}
+use Rattle.std.proofs.Common.{◌++◌, map, reverse, ap, ap₂, ◌∙◌, sym, arith, length-set, take_all, append-nil, refl}
 use Rattle.std.proofs.lemmas.List.{drop_all}
 use Rattle.std.proofs.lemmas.Simd.{map-map}
 use Rattle.aes.specs.State.{State}

@@ -2,13 +2,14 @@ use Rattle.std.proofs.Common.{◌≡◌, map, sym, ap, ◌∙◌, arith, length-
 use Rattle.aes.specs.State.{listed}
 use Rattle.aes.specs.Schedule.{round_key}
 use Rattle.aes.specs.Words.{unpacked, state_of}
-use Rattle.aes.proofs.Expansion.{pushed}
+use Rattle.aes.proofs.Expansion.{filled}
 use Rattle.aes.proofs.way_keys.middle_keys.Goals as goal
 
 pub loop-i-preserved : goal.loop-i-preserved
 loop-i-preserved c = (
   (simp length-set c.loop-i.invariant.0),
-  pushed (round_key (map unpacked c.args.w.now)) c.loop-i.key-items c.loop-i.i c.round_key.result (omega arith) c.loop-i.invariant.1 c.round_key.ensures,
+  filled state_of (round_key (map unpacked c.args.w.now)) c.loop-i.key-items 1 c.loop-i.i c.round_key.result (omega arith) c.loop-i.invariant.1
+      (c.round_key.ensures ∙ ap (round_key (map unpacked c.args.w.now)) (omega arith)),
 )
 
 pub returns : goal.returns

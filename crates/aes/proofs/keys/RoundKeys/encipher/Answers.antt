@@ -1,7 +1,6 @@
 use Rattle.std.proofs.Common.{ap, ◌∙◌}
 use Rattle.block.specs.Width.{value_of, digits}
 use Rattle.aes.specs.State.{state, bytes_in}
-use Rattle.aes.specs.Cipher.{cipher}
 use Rattle.aes.specs.Ways.{forth, through}
 use Rattle.aes.specs.Keyed.{keys_in}
 use Rattle.aes.specs.MapsLemmas.{enciphered}
