@@ -1,24 +1,20 @@
 -- The key expansion on words. Assumes nothing.
-use Rattle.std.proofs.Common.{◌≡◌, ℕ, zero, suc, ◌+◌, ◌-◌, ◌*◌, ◌/◌, ◌%◌, ◌^◌, ◌<◌, ◌≤◌, cond, eqb, List, [], ◌∷◌, ◌++◌, map, length, get_or, take, set, sym, refl, ap, ◌∙◌, ap₂, add-zero, zero-add, add-one, arith}
+use Rattle.std.proofs.Common.{◌≡◌, ℕ, zero, suc, ◌+◌, ◌-◌, ◌*◌, ◌/◌, ◌%◌, ◌^◌, ◌<◌, ◌≤◌, cond, eqb, List, [], ◌∷◌, ◌++◌, map, reverse, length, get_or, take, drop, set, sym, refl, ap, ◌∙◌, ap₂, append_assoc, drop-cons, add-zero, add-one, arith}
 use lib.Bits.{bit_xor, bit_or, or_shifted}
+use mathlib.Core.List.{reverse_aux}
+use Rattle.std.specs.Int.{w32, from_be_bytes}
+use Rattle.std.specs.Simd.{first_chunks}
 use Rattle.std.proofs.lemmas.Nat.{shr-shr, field_of}
-use Rattle.std.proofs.lemmas.List.{get_or-take, take_more_set, map-append}
-use Rattle.aes.specs.SBox.{s_box, inv_s_box}
-use Rattle.aes.specs.State.{Column, column, columns, State, each, listed, word_at}
-use Rattle.aes.specs.Cipher.{plus, inv_mix_column, Keys}
+use Rattle.std.proofs.lemmas.List.{get_or-take, get_or-drop, drop-set-lt, take_more_set, map-append}
+use Rattle.aes.specs.State.{Column, State, column, listed, word_at}
+use Rattle.aes.specs.Cipher.{plus, Keys}
 use Rattle.aes.specs.Schedule.{sub_word, rot_word, power, rcon, none, taken, expansion, round_key, keys_of, key_words, key_schedule}
-use Rattle.aes.specs.Words.{packed, unpacked, state_of, four, unmixing0, unmixing1, mixed_word, plain_word, unmixed_word}
-use Rattle.aes.specs.Keyed.{key_of}
-use Rattle.aes.specs.declared.key.RoundKey.{RoundKey}
+use Rattle.aes.specs.Words.{packed, unpacked, state_of}
+use Rattle.aes.specs.declared.words.Words.{Words}
 use Rattle.aes.specs.FieldLemmas.{xtime_lt}
-use Rattle.aes.specs.Substitution.{sub_lt, inv_sub_lt, boxes_undo}
-use Rattle.aes.specs.Undo.{each_undone}
-use Rattle.aes.specs.Pack.{byte_of_byte, byte_of_half, byte_of_three, unpacked_packed, unpacked_xor, plus_none, packed_unpacked, unpacked_bytes, mixed_column, plain_column}
+use Rattle.aes.specs.Pack.{byte_of_byte, byte_of_half, byte_of_three, unpacked_packed, unpacked_xor}
 
 -- ---- words
-
-pub sub_word_lem : (t r : ℕ) → r ≡ plain_word s_box t t t t 0 → unpacked r ≡ sub_word (unpacked t)
-sub_word_lem t r e = ap unpacked e ∙ plain_column s_box sub_lt t t t t 0 ∙ plus_none (each s_box (unpacked t))
 
 power_lt : (j : ℕ) → power j < 256
 unfolding power
@@ -61,7 +57,7 @@ taken_first nk i t s k z es ek =
 
 -- ---- lists
 
-pub listed_end : {A : Type 0} (f : ℕ → A) (n i : ℕ) → listed f (suc n) i ≡ listed f n i ++ (f (i + n) ∷ [])
+listed_end : {A : Type 0} (f : ℕ → A) (n i : ℕ) → listed f (suc n) i ≡ listed f n i ++ (f (i + n) ∷ [])
 listed_end f zero i = ap (λ k. f k ∷ []) (sym (add-zero i))
 listed_end f (suc n) i = ap (λ l. f i ∷ l) (listed_end f n (suc i) ∙ ap (λ k. listed f n (suc i) ++ (f k ∷ [])) (omega arith))
 
@@ -70,23 +66,35 @@ get_or_unpacked [] j = refl
 get_or_unpacked (x ∷ l) zero = refl
 get_or_unpacked (x ∷ l) (suc j) = get_or_unpacked l j
 
--- one word more at the end of those that are right
-pub set_end : (w : List ℕ) (i r : ℕ) → i < length w → map unpacked (take (i + 1) (set w i r)) ≡ map unpacked (take i w) ++ (unpacked r ∷ [])
-set_end w i r h = ap (map unpacked) (take_more_set w i r h) ∙ map-append unpacked (take i w) (r ∷ [])
+-- one entry more at the end of those that are right
+set_end : {A B : Type 0} (v : A → B) (xs : List A) (i : ℕ) (x : A) → i < length xs → map v (take (i + 1) (set xs i x)) ≡ map v (take i xs) ++ (v x ∷ [])
+set_end v xs i x h = ap (map v) (take_more_set xs i x h) ∙ map-append v (take i xs) (x ∷ [])
 
-pub round_key_lem : (w : List ℕ) (r : ℕ) → state_of (four (get_or w (4 * r) 0) (get_or w (4 * r + 1) 0) (get_or w (4 * r + 2) 0) (get_or w (4 * r + 3) 0)) ≡ round_key (map unpacked w) r
-unfolding state_of
-round_key_lem w r =
-    let at : (j : ℕ) → unpacked (get_or w j 0) ≡ get_or (map unpacked w) j none = λ j. sym (get_or_unpacked w j) in
-    λ i. columns (at (4 * r) i) (at (4 * r + 1) i) (at (4 * r + 2) i) (at (4 * r + 3) i)
+pub filled : {A B : Type 0} (v : A → B) (f : ℕ → B) (xs : List A) (s i : ℕ) (x : A) → i < length xs → map v (take i xs) ≡ listed f i s → v x ≡ f (s + i)
+    → map v (take (i + 1) (set xs i x)) ≡ listed f (i + 1) s
+filled v f xs s i x h inv e =
+    set_end v xs i x h ∙ ap₂ (λ l y. l ++ (y ∷ [])) inv e ∙ sym (listed_end f i s) ∙ ap (λ n. listed f n s) (sym (add-one i))
+
+-- entry k of the whole is entry j of chunk r
+pub chunk_at : (n : ℕ) (l : List ℕ) (r j k : ℕ) → r < n → j < 4 → k ≡ 4 * r + j → get_or (get_or (first_chunks 4 n l) r []) j 0 ≡ get_or l k 0
+chunk_at zero l r j k hr hj e = absurd (omega arith)
+chunk_at (suc n) l zero j k hr hj e = get_or-take 4 l j 0 hj ∙ ap (λ i. get_or l i 0) (omega arith)
+chunk_at (suc n) l (suc r) j k hr hj e = chunk_at n (drop 4 l) r j (4 * r + j) (omega arith) hj (omega arith) ∙ get_or-drop 4 l (4 * r + j) 0 ∙ ap (λ i. get_or l i 0) (omega arith)
+
+pub chunk_word : (n : ℕ) (w : List ℕ) (r j k : ℕ) → r < n → j < 4 → k ≡ 4 * r + j → unpacked (get_or (get_or (first_chunks 4 n w) r []) j 0) ≡ get_or (map unpacked w) k none
+chunk_word n w r j k hr hj e = ap unpacked (chunk_at n w r j k hr hj e) ∙ sym (get_or_unpacked w k)
+
+pub word_of_chunk : (n : ℕ) (key : List ℕ) (i r : ℕ) → ((k : ℕ) → get_or key k 0 < 256) → i < n → r ≡ from_be_bytes w32 (get_or (first_chunks 4 n key) i []) → unpacked r ≡ word_at key i
+word_of_chunk n key i r bytes h e =
+    let b = λ (j : ℕ). get_or (get_or (first_chunks 4 n key) i []) j 0 in
+    let e0 : b 0 ≡ get_or key (4 * i) 0 = chunk_at n key i 0 (4 * i) h (omega arith) (omega arith) in
+    let e1 : b 1 ≡ get_or key (4 * i + 1) 0 = chunk_at n key i 1 (4 * i + 1) h (omega arith) (omega arith) in
+    let e2 : b 2 ≡ get_or key (4 * i + 2) 0 = chunk_at n key i 2 (4 * i + 2) h (omega arith) (omega arith) in
+    let e3 : b 3 ≡ get_or key (4 * i + 3) 0 = chunk_at n key i 3 (4 * i + 3) h (omega arith) (omega arith) in
+    ap unpacked e ∙ ap unpacked (λ j. packed (column (e0 j) (e1 j) (e2 j) (e3 j)))
+    ∙ unpacked_packed (word_at key i) (bytes (4 * i), bytes (4 * i + 1), bytes (4 * i + 2), bytes (4 * i + 3))
 
 -- ---- the loops
-
-pub loaded : (key w : List ℕ) (i r : ℕ) → i < length w → map unpacked (take i w) ≡ listed (word_at key) i 0 → unpacked r ≡ word_at key i
-    → map unpacked (take (i + 1) (set w i r)) ≡ listed (word_at key) (i + 1) 0
-loaded key w i r h inv e =
-    set_end w i r h ∙ ap₂ (λ l k. l ++ (k ∷ [])) inv (e ∙ ap (word_at key) (sym (zero-add i)))
-    ∙ sym (listed_end (word_at key) i 0) ∙ ap (λ n. listed (word_at key) n 0) (sym (add-one i))
 
 pub start : (nk : ℕ) (key : List Column) → key ≡ expansion nk (nk - nk) key
 unfolding expansion
@@ -108,28 +116,26 @@ expanded nk i w key t pos le lt inv et =
     let old = seen w i n (omega arith) ∙ ap (λ l. get_or l n none) inv in
     let last = seen w i (i - 1) (omega arith) ∙ ap₂ (λ l m. get_or l (m - 1) none) inv (sym whole) in
     let t' = et ∙ ap₂ (taken nk) (sym whole) last in
-    set_end w i (bit_xor (get_or w n 0) t) lt
+    set_end unpacked w i (bit_xor (get_or w n 0) t) lt
     ∙ ap₂ (λ l x. l ++ (x ∷ [])) inv (unpacked_xor (get_or w n 0) t ∙ ap₂ plus old t') ∙ sym (ap (λ m. expansion nk m key) step)
 
--- one round key more
-pub pushed : (f : ℕ → State) (ks : List RoundKey) (i : ℕ) (k : RoundKey) → i < length ks → map key_of (take i ks) ≡ listed f i 1 → key_of k ≡ f (i + 1)
-    → map key_of (take (i + 1) (set ks i k)) ≡ listed f (i + 1) 1
-pushed f ks i k h inv e =
-    let next : i + 1 ≡ 1 + i = omega arith in
-    ap (map key_of) (take_more_set ks i k h) ∙ map-append key_of (take i ks) (k ∷ [])
-    ∙ ap₂ (λ l x. l ++ (x ∷ [])) inv (e ∙ ap f next) ∙ sym (listed_end f i 1) ∙ ap (λ n. listed f n 1) (sym (add-one i))
+-- one key more that became what f makes of it
+pub changed : (f : Words → State) (ks : List Words) (i : ℕ) (d k : Words) → i < length ks → state_of k ≡ f (get_or ks i d)
+    → map state_of (take (i + 1) (set ks i k)) ++ map f (drop (i + 1) (set ks i k)) ≡ map state_of (take i ks) ++ map f (drop i ks)
+changed f ks i d k h e =
+    let rest = map f (drop (i + 1) ks) in
+    ap₂ (λ l m. map state_of l ++ map f m) (take_more_set ks i k h) (drop-set-lt (i + 1) ks i k (omega arith))
+    ∙ ap (λ l. l ++ rest) (map-append state_of (take i ks) (k ∷ [])) ∙ append_assoc (map state_of (take i ks)) (state_of k ∷ []) rest
+    ∙ ap₂ (λ x n. map state_of (take i ks) ++ (x ∷ map f (drop n ks))) e (add-one i)
+    ∙ ap (λ l. map state_of (take i ks) ++ map f l) (sym (drop-cons ks i d h))
 
--- InvMixColumns by the tables
-pub unmix_word : (w s r : ℕ) → r < 2 ^ 32 → s ≡ plain_word s_box w w w w 0 → r ≡ mixed_word unmixing0 unmixing1 s s s s 0 → r ≡ unmixed_word w
-unfolding unmixing0 unmixing1 unmixed_word
-unmix_word w s r h es er =
-    let back : each inv_s_box (unpacked s) ≡ unpacked w = ap (each inv_s_box) (sub_word_lem w s es) ∙ each_undone inv_s_box s_box boxes_undo.inv_sub (unpacked w) (unpacked_bytes w) in
-    let column_is : unpacked r ≡ inv_mix_column (unpacked w) =
-    ap unpacked er ∙ mixed_column 14 11 13 9 inv_s_box unmixing0 unmixing1 inv_sub_lt (λ x. refl) (λ x. refl) s s s s 0
-    ∙ plus_none (inv_mix_column (each inv_s_box (unpacked s))) ∙ ap inv_mix_column back in
-    sym (packed_unpacked r h) ∙ ap packed column_is
+map_onto : {A B : Type 0} (f : A → B) (l r : List A) → map f (reverse_aux l r) ≡ reverse_aux (map f l) (map f r)
+map_onto f [] r = refl
+map_onto f (x ∷ l) r = map_onto f l (x ∷ r)
 
--- all of them
+pub map_reverse : {A B : Type 0} (f : A → B) (l : List A) → map f (reverse l) ≡ reverse (map f l)
+map_reverse f l = map_onto f l []
+
 abbrev keys_as : State → List State → State → Keys
 keys_as x ks y = record { first = x; middle = ks; last = y }
 

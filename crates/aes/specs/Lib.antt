@@ -3,6 +3,7 @@ pub mod SBox
 pub mod State
 pub mod Cipher
 pub mod Schedule
+pub mod Ways
 pub mod Words
 pub mod Keyed
 pub mod Maps

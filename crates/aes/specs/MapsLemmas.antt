@@ -12,8 +12,9 @@ use Rattle.engine.specs.Meaning.{Undoes}
 use Rattle.aes.specs.State.{State, state, bytes_in, Fit, AllFit}
 use Rattle.aes.specs.Cipher.{Keys, FitKeys, cipher, inv_cipher}
 use Rattle.aes.specs.Maps.{on_block, keyed}
-use Rattle.aes.specs.Keyed.{key_of, keys_in}
-use Rattle.aes.specs.declared.key.RoundKey.{RoundKey}
+use Rattle.aes.specs.Words.{state_of}
+use Rattle.aes.specs.Keyed.{keys_in}
+use Rattle.aes.specs.declared.words.Words.{Words}
 use Rattle.aes.specs.declared.keys.RoundKeys.{RoundKeys}
 use Rattle.aes.specs.Fits.{cipher_fit, inv_cipher_fit}
 use Rattle.aes.specs.Undo.{rounds_undo}
@@ -67,12 +68,12 @@ undone f g fits u x =
     ∙ ap (λ z. from_bytes arith128 (bytes_in (state z))) (from_number x) ∙ ap (from_bytes arith128) (sym (from_number x)) ∙ back.block x
 
 -- round keys held as words are bytes
-all_fit : (ks : List RoundKey) → AllFit (map key_of ks)
+all_fit : (ks : List Words) → AllFit (map state_of ks)
 all_fit [] = tt
-all_fit (k ∷ ks) = (state_fit k.plain, all_fit ks)
+all_fit (k ∷ ks) = (state_fit k, all_fit ks)
 
 pub keys_fit : (k : RoundKeys) → FitKeys (keys_in k)
-keys_fit k = (state_fit k.first, all_fit k.middle, state_fit k.last)
+keys_fit k = (state_fit k.forth.first, all_fit k.forth.middle, state_fit k.forth.last)
 
 pub undoes : (w : Keys) (left : ℕ) → FitKeys w → Undoes (keyed w left)
 undoes w left h = record {

@@ -1,14 +1,16 @@
 -- Words of 32 bits as columns. Assumes nothing.
-use Rattle.std.specs.Prelude.{◌≡◌, ℕ, ◌+◌, ◌*◌, ◌/◌, ◌%◌, ◌^◌, ◌<◌, bit_xor}
-use Rattle.std.proofs.Common.{sym, ap, ap₂, ◌∙◌, arith}
-use Rattle.std.specs.Int.Bits.{xor_zero_r, xor_assoc}
-use Rattle.std.proofs.lemmas.Nat.{shr-shr, field_of, xor_shr, xor_mod, xor_comm}
+use Rattle.std.specs.Prelude.{◌≡◌, ℕ, ◌+◌, ◌*◌, ◌/◌, ◌%◌, ◌^◌, ◌<◌}
+use lib.Bits.{bit_xor, bit_or, or_shifted}
+use Rattle.std.proofs.Common.{sym, ap, ap₂, subst, ◌∙◌, arith}
+use Rattle.std.specs.Int.Bits.{xor_assoc}
+use Rattle.std.proofs.lemmas.Nat.{shr-shr, field_of, xor_shr, xor_mod, xor_lt, xor_comm}
 use Rattle.block.specs.Width.{value_of, digits}
 use Rattle.block.specs.WidthLemmas.{xors}
 use Rattle.aes.specs.Field.{times}
-use Rattle.aes.specs.State.{Column, column, columns, state, bytes_in, Bytes, Fit}
-use Rattle.aes.specs.Cipher.{matrix, plus, add_round_key}
-use Rattle.aes.specs.Words.{packed, unpacked, state_of, four, brought0, brought1, swapped, mixed_word, plain_word}
+use Rattle.aes.specs.State.{Column, column, columns, each, state, bytes_in, Bytes, Fit}
+use Rattle.aes.specs.Cipher.{plus, add_round_key}
+use Rattle.aes.specs.Ways.{Steps, mixing}
+use Rattle.aes.specs.Words.{packed, unpacked, state_of, brought0, brought1}
 use Rattle.aes.specs.declared.words.Words.{Words}
 use Rattle.aes.specs.FieldLemmas.{product_lt}
 
@@ -40,6 +42,9 @@ unpacked_packed k (h0, h1, h2, h3) =
     let e3 : packed k % 256 ≡ k.s3 = omega arith in
     λ i. column (e0 i) (e1 i) (e2 i) (e3 i)
 
+packed_lt : (k : Column) → Bytes k → packed k < 2 ^ 32
+packed_lt k h = omega arith
+
 pub packed_unpacked : (w : ℕ) → w < 2 ^ 32 → packed (unpacked w) ≡ w
 packed_unpacked w h =
     let e2 = shr-shr w 8 8 in
@@ -58,8 +63,12 @@ unpacked_xor u v =
     λ k. ap (λ (z : ℕ). z % 256) (xor_shr u v k) ∙ xor_mod (u / 2 ^ k) (v / 2 ^ k) 8 in
     λ i. column (at 24 i) (at 16 i) (at 8 i) (xor_mod u v 8 i)
 
-pub plus_none : (k : Column) → plus k (unpacked 0) ≡ k
-plus_none k = λ i. column (xor_zero_r k.s0 i) (xor_zero_r k.s1 i) (xor_zero_r k.s2 i) (xor_zero_r k.s3 i)
+-- a column, and the key's
+pub with_key : (f : Column → Column) (r k : ℕ) (j l : Column) → unpacked r ≡ f j → j ≡ l → unpacked (bit_xor k r) ≡ plus (f l) (unpacked k)
+with_key f r k j l er ej = ap unpacked (xor_comm k r) ∙ unpacked_xor r k ∙ ap (λ z. plus z (unpacked k)) (er ∙ ap f ej)
+
+abbrev pub four : ℕ → ℕ → ℕ → ℕ → Words
+four j k l m = record { c0 = j; c1 = k; c2 = l; c3 = m }
 
 pub xor_state : (x k : Words) → state_of (four (bit_xor x.c0 k.c0) (bit_xor x.c1 k.c1) (bit_xor x.c2 k.c2) (bit_xor x.c3 k.c3)) ≡ add_round_key (state_of x) (state_of k)
 unfolding state_of
@@ -105,6 +114,10 @@ join_number x w0 w1 w2 w3 x0 x1 x2 x3 h0 h1 h2 h3 =
 
 -- ---- what the tables bring
 
+-- a word's two halves, exchanged
+abbrev swapped : ℕ → ℕ
+swapped w = w % 2 ^ 16 * 2 ^ 16 + w / 2 ^ 16 % 2 ^ 16
+
 -- two halves: rows 0 and 1, then rows 2 and 3
 halves : (u l : ℕ) → l < 2 ^ 16 → unpacked (u * 2 ^ 16 + l) ≡ column (u / 2 ^ 8 % 256) (u % 256) (l / 2 ^ 8 % 256) (l % 256)
 halves u l h =
@@ -127,6 +140,12 @@ swapped_rows v =
     let at3 = byte_of_half (v / 2 ^ 16) in
     halves (v % 2 ^ 16) (v / 2 ^ 16 % 2 ^ 16) (omega arith) ∙ (λ i. column (at0 i) (at1 i) (at2 i) (at3 i))
 
+turned : (w : ℕ) → w < 2 ^ 32 → bit_or ((w * 2 ^ 16) % 2 ^ 32) (w / 2 ^ 16) ≡ swapped w
+turned w h =
+    let up : (w * 2 ^ 16) % 2 ^ 32 ≡ w % 2 ^ 16 * 2 ^ 16 = omega arith in
+    let down : w / 2 ^ 16 ≡ w / 2 ^ 16 % 2 ^ 16 = omega arith in
+    ap₂ bit_or up down ∙ or_shifted (w % 2 ^ 16) 16 (w / 2 ^ 16 % 2 ^ 16) (omega arith)
+
 line0 : (w x y z : ℕ) → bit_xor (bit_xor w x) (bit_xor y z) ≡ bit_xor w (bit_xor x (bit_xor y z))
 line0 w x y z = xor_assoc w x (bit_xor y z)
 
@@ -139,47 +158,37 @@ line2 w x y z = xor_comm (bit_xor w x) (bit_xor y z) ∙ xor_assoc y z (bit_xor 
 line3 : (w x y z : ℕ) → bit_xor (bit_xor w x) (bit_xor y z) ≡ bit_xor z (bit_xor w (bit_xor x y))
 line3 w x y z = simp xors
 
-small : (n : ℕ) → n % 256 < 256
-small n = omega arith
+-- by the tables' rule, two words of which rows 0 and 1, and rows 2 and 3, bring their parts
+module _ (t : Steps) (fits : (x : ℕ) → x < 256 → t.sub x < 256) where
+  small_times : (a x : ℕ) → x < 256 → times a (t.sub x) < 256
+  small_times a x h = product_lt 8 a (t.sub x) (fits x h)
 
--- a table by the rule of the matrix with the row p q r s, after the bytes' map f
-module _ (p q r s : ℕ) (f t0 t1 : ℕ → ℕ) (fits : (x : ℕ) → x < 256 → f x < 256)
-    (rule0 : (x : ℕ) → t0 x ≡ packed (brought0 p q r s (f x))) (rule1 : (x : ℕ) → t1 x ≡ packed (brought1 p q r s (f x))) where
-  unpacked0 : (x : ℕ) → x < 256 → unpacked (t0 x) ≡ brought0 p q r s (f x)
-  unpacked0 x h =
-      let lt : (a : ℕ) → times a (f x) < 256 = λ a. product_lt 8 a (f x) (fits x h) in
-      ap unpacked (rule0 x) ∙ unpacked_packed (brought0 p q r s (f x)) (lt p, lt s, lt r, lt q)
+  bytes0 : (x : ℕ) → x < 256 → Bytes (brought0 t (t.sub x))
+  bytes0 x h = (small_times t.p x h, small_times t.s x h, small_times t.r x h, small_times t.q x h)
 
-  unpacked1 : (x : ℕ) → x < 256 → unpacked (t1 x) ≡ brought1 p q r s (f x)
-  unpacked1 x h =
-      let lt : (a : ℕ) → times a (f x) < 256 = λ a. product_lt 8 a (f x) (fits x h) in
-      ap unpacked (rule1 x) ∙ unpacked_packed (brought1 p q r s (f x)) (lt q, lt p, lt s, lt r)
+  bytes1 : (x : ℕ) → x < 256 → Bytes (brought1 t (t.sub x))
+  bytes1 x h = (small_times t.q x h, small_times t.p x h, small_times t.s x h, small_times t.r x h)
 
-  gathered : (w x y z : ℕ) → let l = plus (brought0 p q r s y) (brought1 p q r s z) in
-      plus (plus (brought0 p q r s w) (brought1 p q r s x)) (column l.s2 l.s3 l.s0 l.s1) ≡ matrix p q r s (column w x y z)
-  gathered w x y z =
-      λ i. column (line0 (times p w) (times q x) (times r y) (times s z) i) (line1 (times s w) (times p x) (times q y) (times r z) i)
-      (line2 (times r w) (times s x) (times p y) (times q z) i) (line3 (times q w) (times r x) (times s y) (times p z) i)
+  part0 : (x : ℕ) → x < 256 → unpacked (packed (brought0 t (t.sub x))) ≡ brought0 t (t.sub x)
+  part0 x h = unpacked_packed (brought0 t (t.sub x)) (bytes0 x h)
 
-  pub mixed_column : (w x y z k : ℕ)
-      → unpacked (mixed_word t0 t1 w x y z k) ≡ plus (matrix p q r s (column (f (unpacked w).s0) (f (unpacked x).s1) (f (unpacked y).s2) (f (unpacked z).s3))) (unpacked k)
-  mixed_column w x y z k =
-      let a = t0 (unpacked w).s0 in
-      let b = t1 (unpacked x).s1 in
-      let c = t0 (unpacked y).s2 in
-      let d = t1 (unpacked z).s3 in
-      let upper = unpacked_xor a b ∙ ap₂ plus (unpacked0 (unpacked w).s0 (small _)) (unpacked1 (unpacked x).s1 (small _)) in
-      let under = unpacked_xor c d ∙ ap₂ plus (unpacked0 (unpacked y).s2 (small _)) (unpacked1 (unpacked z).s3 (small _)) in
-      let lower = swapped_rows (bit_xor c d) ∙ ap (λ (l : Column). column l.s2 l.s3 l.s0 l.s1) under in
-      unpacked_xor (bit_xor (bit_xor a b) (swapped (bit_xor c d))) k
-      ∙ ap (λ (j : Column). plus j (unpacked k)) (unpacked_xor (bit_xor a b) (swapped (bit_xor c d)) ∙ ap₂ plus upper lower ∙ gathered (f (unpacked w).s0) (f (unpacked x).s1) (f (unpacked y).s2) (f (unpacked z).s3))
+  part1 : (x : ℕ) → x < 256 → unpacked (packed (brought1 t (t.sub x))) ≡ brought1 t (t.sub x)
+  part1 x h = unpacked_packed (brought1 t (t.sub x)) (bytes1 x h)
 
--- the same by a table of bytes
-module _ (f : ℕ → ℕ) (fits : (x : ℕ) → x < 256 → f x < 256) where
-  pub plain_column : (w x y z k : ℕ)
-      → unpacked (plain_word f w x y z k) ≡ plus (column (f (unpacked w).s0) (f (unpacked x).s1) (f (unpacked y).s2) (f (unpacked z).s3)) (unpacked k)
-  plain_column w x y z k =
-      let j = column (f (unpacked w).s0) (f (unpacked x).s1) (f (unpacked y).s2) (f (unpacked z).s3) in
-      unpacked_xor (packed j) k
-      ∙ ap (λ (i : Column). plus i (unpacked k))
-      (unpacked_packed j (fits (unpacked w).s0 (small _), fits (unpacked x).s1 (small _), fits (unpacked y).s2 (small _), fits (unpacked z).s3 (small _)))
+  gathered : (a b c d : ℕ) → let l = plus (brought0 t c) (brought1 t d) in
+      plus (plus (brought0 t a) (brought1 t b)) (column l.s2 l.s3 l.s0 l.s1) ≡ mixing t (column a b c d)
+  gathered a b c d =
+      λ i. column (line0 (times t.p a) (times t.q b) (times t.r c) (times t.s d) i) (line1 (times t.s a) (times t.p b) (times t.q c) (times t.r d) i)
+      (line2 (times t.r a) (times t.s b) (times t.p c) (times t.q d) i) (line3 (times t.q a) (times t.r b) (times t.s c) (times t.p d) i)
+
+  pub mixed_column : (a b c d u v r : ℕ) → a < 256 → b < 256 → c < 256 → d < 256
+      → u ≡ bit_xor (packed (brought0 t (t.sub a))) (packed (brought1 t (t.sub b)))
+      → v ≡ bit_xor (packed (brought0 t (t.sub c))) (packed (brought1 t (t.sub d)))
+      → r ≡ bit_or ((v * 2 ^ 16) % 2 ^ 32) (v / 2 ^ 16)
+      → unpacked (bit_xor u r) ≡ mixing t (each t.sub (column a b c d))
+  mixed_column a b c d u v r ha hb hc hd eu ev er =
+      let upper = ap unpacked eu ∙ unpacked_xor (packed (brought0 t (t.sub a))) (packed (brought1 t (t.sub b))) ∙ ap₂ plus (part0 a ha) (part1 b hb) in
+      let under = ap unpacked ev ∙ unpacked_xor (packed (brought0 t (t.sub c))) (packed (brought1 t (t.sub d))) ∙ ap₂ plus (part0 c hc) (part1 d hd) in
+      let lt : v < 2 ^ 32 = subst (λ z. z < 2 ^ 32) (sym ev) (xor_lt 32 (packed (brought0 t (t.sub c))) (packed (brought1 t (t.sub d))) (packed_lt (brought0 t (t.sub c)) (bytes0 c hc)) (packed_lt (brought1 t (t.sub d)) (bytes1 d hd))) in
+      let lower = ap unpacked (er ∙ turned v lt) ∙ swapped_rows v ∙ ap (λ (l : Column). column l.s2 l.s3 l.s0 l.s1) under in
+      unpacked_xor u r ∙ ap₂ plus upper lower ∙ gathered (t.sub a) (t.sub b) (t.sub c) (t.sub d)

@@ -1,5 +1,5 @@
 -- A table's rule, at all of its entries by one computation. Assumes nothing.
-use Rattle.std.specs.Prelude.{◌≡◌, ℕ, zero, suc, ◌+◌, ◌<◌, List, [], ◌∷◌, get_or, slice_index, slice_index_or, refl}
+use Rattle.std.specs.Prelude.{◌≡◌, ℕ, zero, suc, ◌+◌, ◌<◌, List, get_or, slice_index_or, refl}
 use Rattle.std.proofs.Common.{sym, ap, ◌∙◌, le_of_suc-le-suc, not-suc-le-zero, zero-add, arith}
 use Rattle.aes.specs.State.{listed}
 
@@ -15,14 +15,3 @@ by_rule l f n d e k h = ap (λ t. get_or t k d) e ∙ at_listed f n 0 k d h ∙ 
 -- two rules agree below n, by one computation
 pub agree : (f g : ℕ → ℕ) (n : ℕ) → listed f n 0 ≡ listed g n 0 → (k : ℕ) → k < n → f k ≡ g k
 agree f g n e k h = sym (by_rule (listed f n 0) f n 0 refl k h) ∙ by_rule (listed f n 0) g n 0 e k h
-
--- a table of pairs
-module _ (l : List (List ℕ)) (f g : ℕ → ℕ) (n : ℕ) (e : l ≡ listed (λ x. f x ∷ g x ∷ []) n 0) (k : ℕ) (h : k < n) where
-  pair : get_or l k [] ≡ f k ∷ g k ∷ []
-  pair = by_rule l (λ x. f x ∷ g x ∷ []) n [] e k h
-
-  pub by_rule0 : get_or (slice_index_or l k []) 0 0 ≡ f k
-  by_rule0 = ap (λ (r : List ℕ). slice_index r 0) pair
-
-  pub by_rule1 : get_or (slice_index_or l k []) 1 0 ≡ g k
-  by_rule1 = ap (λ (r : List ℕ). slice_index r 1) pair

@@ -1,28 +1,39 @@
-// The cipher and the inverse cipher of a block, under round keys.
-ghost use Rattle.std.specs.Prelude.{◌≡◌};
+// The cipher and the inverse cipher of a block, under the round keys of a key.
+ghost use Rattle.std.specs.Prelude.{◌≡◌, length};
 ghost use Rattle.aes.specs.Cipher.{cipher, inv_cipher};
+ghost use Rattle.aes.specs.Schedule.{key_schedule};
 ghost use Rattle.aes.specs.Keyed.{keys_in};
 ghost use Rattle.aes.specs.Maps.{on_block};
 
 use crate::keys::RoundKeys;
-use crate::rounds;
+use crate::rounds::through;
+use crate::way::{Back, Forth};
+use crate::way_keys::WayKeys;
 use crate::words::Words;
 use block::Block128;
 
 impl RoundKeys {
+    pub(crate) fn new(key: &[u8]) -> Self
+        requires { length key.now ≡ 16 }
+        ensures { keys_in result ≡ key_schedule 4 key.now }
+    {
+        let forth = WayKeys::scheduled(key);
+        let back = forth.turned_back();
+        RoundKeys { forth, back }
+    }
+
     pub(crate) fn encipher(&self, block: Block128) -> Block128
         ensures { result ≡ on_block (cipher (keys_in self.now)) block }
     {
-        let x = Words::split(block.value()).xor(&self.first);
-        let y = rounds::whole_rounds(&self.middle, x);
-        Block128::new(rounds::last_round(y, &self.last).join())
+        let x = Words::split(block.value());
+        Block128::new(through::<Forth>(&self.forth, x).join())
     }
 
+    // The way back is a way forth over mirrored columns, since their rows shift in the other direction.
     pub(crate) fn decipher(&self, block: Block128) -> Block128
         ensures { result ≡ on_block (inv_cipher (keys_in self.now)) block }
     {
-        let x = Words::split(block.value()).xor(&self.last);
-        let y = rounds::inv_whole_rounds(&self.middle, x);
-        Block128::new(rounds::inv_last_round(y, &self.first).join())
+        let x = Words::split(block.value()).mirrored();
+        Block128::new(through::<Back>(&self.back, x).mirrored().join())
     }
 }

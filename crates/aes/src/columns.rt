@@ -1,88 +1,42 @@
-// One column of the next state, as a word, from the four words that ShiftRows brings it together from.
+// One column of the next state, as a word, from its bytes in rows 0 to 3.
 ghost use Rattle.std.specs.Prelude.{◌≡◌};
-ghost use Rattle.aes.specs.SBox.{s_box, inv_s_box};
-ghost use Rattle.aes.specs.State.{column};
-ghost use Rattle.aes.specs.Words.{packed, unpacked, mixing0, mixing1, unmixing0, unmixing1, swapped, mixed_word, plain_word};
+ghost use Rattle.aes.specs.State.{column, each, word_at};
+ghost use Rattle.aes.specs.Ways.{mixing};
+ghost use Rattle.aes.specs.Words.{unpacked};
 
-use crate::boxes;
+use crate::way::Way;
 
-fn row0(w: u32) -> u8
-    ensures { result ≡ (unpacked w).s0 }
+// Row 0 of w, row 1 of x, row 2 of y and row 3 of z.
+pub(crate) fn gathered(w: u32, x: u32, y: u32, z: u32) -> [u8; 4]
+    ensures { word_at result 0 ≡ column (unpacked w).s0 (unpacked x).s1 (unpacked y).s2 (unpacked z).s3 }
 {
-    (w >> 24) as u8
+    [
+        w.to_be_bytes()[0],
+        x.to_be_bytes()[1],
+        y.to_be_bytes()[2],
+        z.to_be_bytes()[3],
+    ]
 }
 
-fn row1(w: u32) -> u8
-    ensures { result ≡ (unpacked w).s1 }
+// The S-box and the matrix of a way. Rows 2 and 3 bring what rows 0 and 1 do, with the halves exchanged.
+pub(crate) fn mixed<W: Way>(rows: [u8; 4]) -> u32
+    ensures { unpacked result ≡ mixing W.steps (each W.steps.sub (word_at rows 0)) }
 {
-    ((w >> 16) % 256) as u8
+    let [a, b, c, d] = rows;
+    let upper = W::brought(a)[0] ^ W::brought(b)[1];
+    let lower = W::brought(c)[0] ^ W::brought(d)[1];
+    upper ^ lower.rotate_left(16)
 }
 
-fn row2(w: u32) -> u8
-    ensures { result ≡ (unpacked w).s2 }
+// The S-box alone.
+pub(crate) fn substituted<W: Way>(rows: [u8; 4]) -> u32
+    ensures { unpacked result ≡ each W.steps.sub (word_at rows 0) }
 {
-    ((w >> 8) % 256) as u8
-}
-
-fn row3(w: u32) -> u8
-    ensures { result ≡ (unpacked w).s3 }
-{
-    (w % 256) as u8
-}
-
-fn pack(s0: u8, s1: u8, s2: u8, s3: u8) -> u32
-    ensures { result ≡ packed (column s0 s1 s2 s3) }
-{
-    (u32::from(s0) << 24) + (u32::from(s1) << 16) + (u32::from(s2) << 8) + u32::from(s3)
-}
-
-// Rows 0 and 1 change places with rows 2 and 3.
-fn swap_rows(w: u32) -> u32
-    ensures { result ≡ swapped w }
-{
-    w.rotate_left(16)
-}
-
-// SubBytes and MixColumns at row 0 of w, row 1 of x, row 2 of y and row 3 of z, and the key's column k.
-pub(crate) fn mixed(w: u32, x: u32, y: u32, z: u32, k: u32) -> u32
-    ensures { result ≡ mixed_word mixing0 mixing1 w x y z k }
-{
-    let upper = boxes::mixed_from_row0(row0(w)) ^ boxes::mixed_from_row1(row1(x));
-    let lower = boxes::mixed_from_row0(row2(y)) ^ boxes::mixed_from_row1(row3(z));
-    upper ^ swap_rows(lower) ^ k
-}
-
-// InvSubBytes and InvMixColumns there.
-pub(crate) fn unmixed(w: u32, x: u32, y: u32, z: u32, k: u32) -> u32
-    ensures { result ≡ mixed_word unmixing0 unmixing1 w x y z k }
-{
-    let upper = boxes::unmixed_from_row0(row0(w)) ^ boxes::unmixed_from_row1(row1(x));
-    let lower = boxes::unmixed_from_row0(row2(y)) ^ boxes::unmixed_from_row1(row3(z));
-    upper ^ swap_rows(lower) ^ k
-}
-
-// SubBytes alone.
-pub(crate) fn substituted(w: u32, x: u32, y: u32, z: u32, k: u32) -> u32
-    ensures { result ≡ plain_word s_box w x y z k }
-{
-    let rows = pack(
-        boxes::substitute(row0(w)),
-        boxes::substitute(row1(x)),
-        boxes::substitute(row2(y)),
-        boxes::substitute(row3(z)),
-    );
-    rows ^ k
-}
-
-// InvSubBytes alone.
-pub(crate) fn inv_substituted(w: u32, x: u32, y: u32, z: u32, k: u32) -> u32
-    ensures { result ≡ plain_word inv_s_box w x y z k }
-{
-    let rows = pack(
-        boxes::inv_substitute(row0(w)),
-        boxes::inv_substitute(row1(x)),
-        boxes::inv_substitute(row2(y)),
-        boxes::inv_substitute(row3(z)),
-    );
-    rows ^ k
+    let [a, b, c, d] = rows;
+    u32::from_be_bytes([
+        W::substitute(a),
+        W::substitute(b),
+        W::substitute(c),
+        W::substitute(d),
+    ])
 }

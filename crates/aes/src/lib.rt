@@ -2,16 +2,16 @@
 #![tactic(auto)]
 
 mod aes128;
-mod boxes;
 mod cipher;
 mod columns;
 mod inv_tables;
-mod key;
 mod keys;
 mod rounds;
 mod schedule;
 mod tables;
 mod theorems;
+mod way;
+mod way_keys;
 mod words;
 
 pub use aes128::Aes128;

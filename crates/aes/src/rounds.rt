@@ -1,76 +1,52 @@
-// The rounds, both ways, over any round keys.
-ghost use Rattle.std.specs.Prelude.{◌≡◌, map};
-ghost use Rattle.aes.specs.SBox.{s_box, inv_s_box};
-ghost use Rattle.aes.specs.Cipher.{rounds, inv_rounds};
-ghost use Rattle.aes.specs.Keyed.{key_of};
-ghost use Rattle.aes.specs.Words.{state_of, mixing0, mixing1, unmixing0, unmixing1, mixed_word, plain_word, shifted, inv_shifted};
+// The rounds of either way, over any round keys.
+ghost use Rattle.std.specs.Prelude.{◌≡◌, fold, map};
+ghost use Rattle.aes.specs.Ways.{round, last_round, through};
+ghost use Rattle.aes.specs.Words.{state_of, keys_of};
 
-use crate::columns;
-use crate::key::RoundKey;
+use crate::columns::{gathered, mixed, substituted};
+use crate::way::Way;
+use crate::way_keys::WayKeys;
 use crate::words::Words;
 
-// The columns stand in falling order, in which the compiled round waits least for its table (docs/BENCHMARKS.md).
-fn whole_round(x: Words, k: &Words) -> Words
-    ensures { result ≡ shifted (mixed_word mixing0 mixing1) k.now x }
+// The columns stand in falling order, and in each the key first: so the compiled round waits least for its table
+// (docs/BENCHMARKS.md).
+fn whole_round<W: Way>(x: Words, k: &Words) -> Words
+    ensures { state_of result ≡ round W.steps (state_of x) (state_of k.now) }
 {
     Words {
-        c3: columns::mixed(x.c3, x.c0, x.c1, x.c2, k.c3),
-        c2: columns::mixed(x.c2, x.c3, x.c0, x.c1, k.c2),
-        c1: columns::mixed(x.c1, x.c2, x.c3, x.c0, k.c1),
-        c0: columns::mixed(x.c0, x.c1, x.c2, x.c3, k.c0),
+        c3: k.c3 ^ mixed::<W>(gathered(x.c3, x.c0, x.c1, x.c2)),
+        c2: k.c2 ^ mixed::<W>(gathered(x.c2, x.c3, x.c0, x.c1)),
+        c1: k.c1 ^ mixed::<W>(gathered(x.c1, x.c2, x.c3, x.c0)),
+        c0: k.c0 ^ mixed::<W>(gathered(x.c0, x.c1, x.c2, x.c3)),
     }
 }
 
 // The last round mixes no columns.
-pub(crate) fn last_round(x: Words, k: &Words) -> Words
-    ensures { result ≡ shifted (plain_word s_box) k.now x }
+fn last_round<W: Way>(x: Words, k: &Words) -> Words
+    ensures { state_of result ≡ last_round W.steps (state_of x) (state_of k.now) }
 {
-    Words {
-        c0: columns::substituted(x.c0, x.c1, x.c2, x.c3, k.c0),
-        c1: columns::substituted(x.c1, x.c2, x.c3, x.c0, k.c1),
-        c2: columns::substituted(x.c2, x.c3, x.c0, x.c1, k.c2),
-        c3: columns::substituted(x.c3, x.c0, x.c1, x.c2, k.c3),
-    }
+    let shifted = Words {
+        c0: substituted::<W>(gathered(x.c0, x.c1, x.c2, x.c3)),
+        c1: substituted::<W>(gathered(x.c1, x.c2, x.c3, x.c0)),
+        c2: substituted::<W>(gathered(x.c2, x.c3, x.c0, x.c1)),
+        c3: substituted::<W>(gathered(x.c3, x.c0, x.c1, x.c2)),
+    };
+    shifted ^ *k
 }
 
-// The key went through InvMixColumns beforehand, and comes after it.
-fn inv_whole_round(x: Words, k: &Words) -> Words
-    ensures { result ≡ inv_shifted (mixed_word unmixing0 unmixing1) k.now x }
-{
-    Words {
-        c0: columns::unmixed(x.c0, x.c3, x.c2, x.c1, k.c0),
-        c1: columns::unmixed(x.c1, x.c0, x.c3, x.c2, k.c1),
-        c2: columns::unmixed(x.c2, x.c1, x.c0, x.c3, k.c2),
-        c3: columns::unmixed(x.c3, x.c2, x.c1, x.c0, k.c3),
-    }
-}
-
-pub(crate) fn inv_last_round(x: Words, k: &Words) -> Words
-    ensures { result ≡ inv_shifted (plain_word inv_s_box) k.now x }
-{
-    Words {
-        c0: columns::inv_substituted(x.c0, x.c3, x.c2, x.c1, k.c0),
-        c1: columns::inv_substituted(x.c1, x.c0, x.c3, x.c2, k.c1),
-        c2: columns::inv_substituted(x.c2, x.c1, x.c0, x.c3, k.c2),
-        c3: columns::inv_substituted(x.c3, x.c2, x.c1, x.c0, k.c3),
-    }
-}
-
-pub(crate) fn whole_rounds(keys: &[RoundKey], mut x: Words) -> Words
-    ensures { state_of result ≡ rounds (map key_of keys.now) (state_of x) }
+fn whole_rounds<W: Way>(keys: &[Words], mut x: Words) -> Words
+    ensures { state_of result ≡ fold (round W.steps) (state_of x) (map state_of keys.now) }
 {
     for k in keys {
-        x = whole_round(x, &k.plain);
+        x = whole_round::<W>(x, k);
     }
     x
 }
 
-// The last key first.
-pub(crate) fn inv_whole_rounds(keys: &[RoundKey], mut x: Words) -> Words
-    ensures { state_of result ≡ inv_rounds (map key_of keys.now) (state_of x) }
+// All rounds of a way, under its keys.
+pub(crate) fn through<W: Way>(keys: &WayKeys, x: Words) -> Words
+    ensures { state_of result ≡ through W.steps (keys_of keys.now) (state_of x) }
 {
-    for i in (0..keys.len()).rev() {
-        x = inv_whole_round(x, &keys[i].unmixed);
-    }
-    x
+    let y = whole_rounds::<W>(&keys.middle, x ^ keys.first);
+    last_round::<W>(y, &keys.last)
 }

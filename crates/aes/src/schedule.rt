@@ -4,7 +4,8 @@ ghost use Rattle.aes.specs.State.{word_at};
 ghost use Rattle.aes.specs.Schedule.{sub_word, rot_word, rcon, taken, expansion, key_words};
 ghost use Rattle.aes.specs.Words.{packed, unpacked};
 
-use crate::columns;
+use crate::columns::substituted;
+use crate::way::Forth;
 
 // The round constants 1 to 10, in row 0.
 const CONSTANTS: [u32; 10] = [
@@ -29,7 +30,7 @@ fn rot_word(t: u32) -> u32
 fn sub_word(t: u32) -> u32
     ensures { unpacked result ≡ sub_word (unpacked t) }
 {
-    columns::substituted(t, t, t, t, 0)
+    substituted::<Forth>(t.to_be_bytes())
 }
 
 // What word i takes in besides word i − nk, where t is word i − 1.
@@ -48,7 +49,7 @@ fn taken_in(nk: usize, i: usize, t: u32) -> u32
     }
 }
 
-// The first nk words of w are the key; the others are filled in.
+// The first nk words of w are the key; the others are filled in, by index, since each is made of two earlier ones.
 fn expand(nk: usize, w: &mut [u32])
     requires some { 0 < nk }
     requires key_in { nk ≤ length w.old }
@@ -61,21 +62,13 @@ fn expand(nk: usize, w: &mut [u32])
     }
 }
 
-fn word_at(key: &[u8], i: usize) -> u32
-    requires { 4 * i + 4 ≤ length key.now }
-    ensures { unpacked result ≡ word_at key.now i }
-{
-    u32::from_be_bytes([key[4 * i], key[4 * i + 1], key[4 * i + 2], key[4 * i + 3]])
-}
-
 // Writes the words of the key to the front of w.
-fn load(nk: usize, key: &[u8], w: &mut [u32])
-    requires key_long { 4 * nk ≤ length key.now }
-    requires room { nk ≤ length w.old }
-    ensures { map unpacked (take nk w.new) ≡ key_words nk key.now }
+fn load(key: &[u8], w: &mut [u32])
+    requires { length key.now / 4 ≤ length w.old }
+    ensures { map unpacked (take (length key.now / 4) w.new) ≡ key_words (length key.now / 4) key.now }
 {
-    for i in 0..nk {
-        w[i] = word_at(key, i);
+    for (i, bytes) in key.as_chunks::<4>().0.iter().enumerate() {
+        w[i] = u32::from_be_bytes(*bytes);
     }
 }
 
@@ -85,7 +78,7 @@ pub(crate) fn words128(key: &[u8]) -> [u32; 44]
     ensures { map unpacked result ≡ expansion 4 40 (key_words 4 key.now) }
 {
     let mut w = [0; 44];
-    load(4, key, &mut w);
+    load(key, &mut w);
     expand(4, &mut w);
     w
 }

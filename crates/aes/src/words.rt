@@ -2,8 +2,13 @@
 ghost use Rattle.std.specs.Prelude.{◌≡◌};
 ghost use Rattle.block.specs.Width.{value_of, digits};
 ghost use Rattle.aes.specs.State.{state, bytes_in};
-ghost use Rattle.aes.specs.Cipher.{add_round_key};
-ghost use Rattle.aes.specs.Words.{state_of};
+ghost use Rattle.aes.specs.Cipher.{add_round_key, inv_mix_column, inv_mix_columns};
+ghost use Rattle.aes.specs.Ways.{mirror};
+ghost use Rattle.aes.specs.Words.{unpacked, state_of};
+
+use crate::columns::{mixed, substituted};
+use crate::way::{Back, Forth};
+use std::ops::BitXor;
 
 #[derive(Clone, Copy)]
 pub(crate) struct Words {
@@ -13,11 +18,36 @@ pub(crate) struct Words {
     pub(crate) c3: u32,
 }
 
+// AddRoundKey.
+impl BitXor for Words {
+    type Output = Self;
+
+    ghost bitxor_gives = { λ x k r. state_of r ≡ add_round_key (state_of x) (state_of k) };
+
+    fn bitxor(self, key: Self) -> Self {
+        Words {
+            c0: self.c0 ^ key.c0,
+            c1: self.c1 ^ key.c1,
+            c2: self.c2 ^ key.c2,
+            c3: self.c3 ^ key.c3,
+        }
+    }
+}
+
 // One more than the highest word.
 const OVER: u128 = 0x1_0000_0000;
 
+// InvMixColumns at one column: the tables undo an S-box, so one is applied before them.
+fn unmixed_column(w: u32) -> u32
+    ensures { unpacked result ≡ inv_mix_column (unpacked w) }
+{
+    let s = substituted::<Forth>(w.to_be_bytes());
+    mixed::<Back>(s.to_be_bytes())
+}
+
 impl Words {
-    // The state that the sixteen bytes of a number fill, high byte first.
+    // The state that the sixteen bytes of a number fill, high byte first. By shifts: by way of `to_be_bytes` a block
+    // takes six hundredths longer.
     pub(crate) fn split(x: u128) -> Self
         ensures { state_of result ≡ state (digits 16 x) }
     {
@@ -29,7 +59,7 @@ impl Words {
         }
     }
 
-    // The number whose bytes are the state's.
+    // The number whose bytes are the state's. By shifts too: the sixteen bytes would each need a name.
     pub(crate) fn join(self) -> u128
         ensures { result ≡ value_of 16 (bytes_in (state_of self)) }
     {
@@ -39,14 +69,26 @@ impl Words {
             + u128::from(self.c3)
     }
 
-    pub(crate) fn xor(self, key: &Words) -> Self
-        ensures { state_of result ≡ add_round_key (state_of self) (state_of key.now) }
+    // Column 0 stays, and the others stand the other way round.
+    pub(crate) fn mirrored(self) -> Self
+        ensures { state_of result ≡ mirror (state_of self) }
     {
         Words {
-            c0: self.c0 ^ key.c0,
-            c1: self.c1 ^ key.c1,
-            c2: self.c2 ^ key.c2,
-            c3: self.c3 ^ key.c3,
+            c1: self.c3,
+            c3: self.c1,
+            ..self
+        }
+    }
+
+    // The state after InvMixColumns.
+    pub(crate) fn unmixed(self) -> Self
+        ensures { state_of result ≡ inv_mix_columns (state_of self) }
+    {
+        Words {
+            c0: unmixed_column(self.c0),
+            c1: unmixed_column(self.c1),
+            c2: unmixed_column(self.c2),
+            c3: unmixed_column(self.c3),
         }
     }
 }
