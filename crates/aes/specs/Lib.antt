@@ -7,7 +7,6 @@ pub mod Ways
 pub mod Words
 pub mod Keyed
 pub mod Maps
-pub mod Engine
 pub mod Examples
 pub mod MapsLemmas
 pub mod Fits

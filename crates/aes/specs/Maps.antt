@@ -1,9 +1,8 @@
--- The two maps of an AES engine on blocks, and what the engine of a key is. Assumes nothing.
+-- The two maps of AES on blocks, and what the engine of a key is. Assumes nothing.
 use Rattle.std.specs.Prelude.{ℕ, ◌*◌, cond, List, [], length, Ok, Err, Result, ◌==◌}
 use Rattle.block.specs.Arith.{from_bytes, to_bytes}
-use Rattle.block.specs.Blocks.{arith128}
-use Rattle.block.specs.Blocks.{Block128}
-use Rattle.engine.specs.Meaning.{Meaning}
+use Rattle.block.specs.Blocks.{Block128, arith128}
+use Rattle.engine.specs.Meaning.{Maps, Meaning, metered}
 use Rattle.engine.specs.Refusals.{Refusal}
 use Rattle.aes.specs.State.{State, state, bytes_in}
 use Rattle.aes.specs.Cipher.{Keys, cipher, inv_cipher}
@@ -13,9 +12,12 @@ use Rattle.aes.specs.Schedule.{key_schedule}
 unfoldable pub on_block : (State → State) → Block128 → Block128
 on_block f x = from_bytes arith128 (bytes_in (f (state (to_bytes arith128 x))))
 
--- an engine over round keys
+-- the cipher over round keys, and an engine of it
+abbrev pub under : Keys → Maps Block128
+under w = record { enc = on_block (cipher w); dec = on_block (inv_cipher w) }
+
 abbrev pub keyed : Keys → ℕ → Meaning Block128
-keyed w left = record { enc = on_block (cipher w); dec = on_block (inv_cipher w); left = left }
+keyed w left = metered (under w) left
 
 -- an engine of a key in bytes: AES with nk words of key, and refusal 1 of a key of another length
 abbrev pub aes : ℕ → List ℕ → ℕ → Result (Meaning Block128) Refusal

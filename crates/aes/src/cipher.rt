@@ -1,9 +1,9 @@
 // The cipher and the inverse cipher of a block, under the round keys of a key.
 ghost use Rattle.std.specs.Prelude.{◌≡◌, length};
-ghost use Rattle.aes.specs.Cipher.{cipher, inv_cipher};
 ghost use Rattle.aes.specs.Schedule.{key_schedule};
 ghost use Rattle.aes.specs.Keyed.{keys_in};
-ghost use Rattle.aes.specs.Maps.{on_block};
+ghost use Rattle.aes.specs.Maps.{under};
+ghost use Rattle.aes.specs.MapsLemmas;
 
 use crate::keys::RoundKeys;
 use crate::rounds::through;
@@ -11,6 +11,7 @@ use crate::way::{Back, Forth};
 use crate::way_keys::WayKeys;
 use crate::words::Words;
 use block::Block128;
+use engine::Cipher;
 
 impl RoundKeys {
     pub(crate) fn new(key: &[u8]) -> Self
@@ -21,18 +22,22 @@ impl RoundKeys {
         let back = forth.turned_back();
         RoundKeys { forth, back }
     }
+}
 
-    pub(crate) fn encipher(&self, block: Block128) -> Block128
-        ensures { result ≡ on_block (cipher (keys_in self.now)) block }
-    {
+impl Cipher for RoundKeys {
+    type Block = Block128;
+
+    ghost maps = { λ k. under (keys_in k) };
+
+    ghost undoes = { λ k left. MapsLemmas.undoes (keys_in k) left (MapsLemmas.keys_fit k) };
+
+    fn encipher(&self, block: Block128) -> Block128 {
         let x = Words::split(block.value());
         Block128::new(through::<Forth>(&self.forth, x).join())
     }
 
     // The way back is a way forth over mirrored columns, since their rows shift in the other direction.
-    pub(crate) fn decipher(&self, block: Block128) -> Block128
-        ensures { result ≡ on_block (inv_cipher (keys_in self.now)) block }
-    {
+    fn decipher(&self, block: Block128) -> Block128 {
         let x = Words::split(block.value()).mirrored();
         Block128::new(through::<Back>(&self.back, x).mirrored().join())
     }

@@ -5,8 +5,9 @@ ghost use Rattle.aes.specs.Words.{keys_of};
 
 use crate::way_keys::WayKeys;
 
+// The round keys of one key, and AES-128 under it.
 #[derive(Drop)]
-pub(crate) struct RoundKeys {
+pub struct RoundKeys {
     pub(crate) forth: WayKeys,
     pub(crate) back: WayKeys,
     ghost turned: { keys_of back ≡ turned_back (keys_of forth) },

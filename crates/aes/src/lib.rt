@@ -15,4 +15,5 @@ mod way_keys;
 mod words;
 
 pub use aes128::Aes128;
+pub use keys::RoundKeys;
 pub use theorems::{boxes_undo, inverse_is_one, published_examples, rounds_undo, steps_undo};

@@ -5,7 +5,7 @@ use Rattle.aes.specs.Ways.{forth, through}
 use Rattle.aes.specs.Keyed.{keys_in}
 use Rattle.aes.specs.MapsLemmas.{enciphered}
 use Rattle.aes.proofs.Turns.{forth_is_cipher}
-use Rattle.aes.proofs.keys.RoundKeys.encipher.Goals as goal
+use Rattle.aes.proofs.cipher.RoundKeysCipher.encipher.Goals as goal
 
 pub returns : goal.returns
 returns c =

@@ -6,7 +6,7 @@ use Rattle.aes.specs.Words.{keys_of}
 use Rattle.aes.specs.Keyed.{keys_in}
 use Rattle.aes.specs.MapsLemmas.{deciphered}
 use Rattle.aes.proofs.Turns.{back_is_inv_cipher}
-use Rattle.aes.proofs.keys.RoundKeys.decipher.Goals as goal
+use Rattle.aes.proofs.cipher.RoundKeysCipher.decipher.Goals as goal
 
 pub returns : goal.returns
 returns c =
