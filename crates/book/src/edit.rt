@@ -1,13 +1,14 @@
-// An edit as it is handed to a writer, and its fields.
-ghost use Rattle.std.specs.Prelude.{◌≡◌, false};
-ghost use Rattle.book.specs.Writing.{kind_of, position_of, bits_of, data_of, lacking};
-ghost use Rattle.book.specs.Edits.{plain};
-ghost use Rattle.book.specs.Tests.{offered, fitted};
+// An edit, and what a record's slot holds of it.
+ghost use Rattle.std.specs.Prelude.{◌≡◌, ◌*◌, ◌<◌, ◌≤◌, length, take, MatchResult};
+ghost use Rattle.book.specs.Slots.{bytes_for};
+ghost use Rattle.book.specs.Edits.{plain, Laid};
+ghost use Rattle.book.specs.Tests.{fitted};
 
 use crate::BookFault;
-use crate::slot::{ADD, CUT, PUT, TAG, hold};
+use crate::kind::Kind;
+use crate::slot::hold;
 
-// An edit that is to be recorded, with the bytes that its bits come from.
+// An edit, with the bytes that its bits come from.
 #[derive(Clone, Copy)]
 pub enum Edit<'a> {
     // Adds the first `bits` bits of the data.
@@ -31,60 +32,57 @@ pub enum Edit<'a> {
     },
 }
 
+// What a record's slot holds behind the link.
+#[derive(Clone, Copy)]
+pub(crate) struct Fields<'a> {
+    pub(crate) kind: Kind,
+    pub(crate) position: u32,
+    pub(crate) bits: u32,
+    pub(crate) data: &'a [u8],
+}
+
+// The bytes that so many bits need, of those handed in; refused where there are fewer.
+fn needed(bits: u32, data: &[u8]) -> Result<&[u8], BookFault>
+    ensures { MatchResult result (λ part. (bits ≤ 8 * length «data».now) × (part.now ≡ take (bytes_for bits) «data».now)) (λ fault. (8 * length «data».now < bits) × (fault ≡ BookFault.Data)) }
+{
+    data.get(..bits.div_ceil(8) as usize).ok_or(BookFault::Data)
+}
+
 impl<'a> Edit<'a> {
-    pub(crate) fn kind(self) -> u8
-        ensures { result ≡ kind_of (plain self.entry) }
+    // Its fields; refused where fewer bits are handed in than the length says.
+    pub(crate) fn fields(self) -> Result<Fields<'a>, BookFault>
+        ensures { Laid (plain self.entry) result }
     {
-        match self {
-            Edit::Add { .. } => ADD,
-            Edit::Cut { .. } => CUT,
-            Edit::Put { .. } => PUT,
-            Edit::Tag { .. } => TAG,
-        }
-    }
-
-    // The position of a put; 0 for the others.
-    pub(crate) fn position(self) -> u32
-        ensures { result ≡ position_of (plain self.entry) }
-    {
-        match self {
-            Edit::Put { position, .. } => position,
-            _ => 0,
-        }
-    }
-
-    pub(crate) fn bits(self) -> u32
-        ensures { result ≡ bits_of (plain self.entry) }
-    {
-        match self {
-            Edit::Add { bits, .. } => bits,
-            Edit::Cut { bits } => bits,
-            Edit::Put { bits, .. } => bits,
-            Edit::Tag { bits } => bits,
-        }
-    }
-
-    // The bytes that the bits of an add or a put need, of those handed in.
-    pub(crate) fn data(self) -> &'a [u8]
-        requires { lacking (plain self) ≡ false }
-        ensures { result.now ≡ data_of (plain self.entry) }
-    {
-        match self {
-            Edit::Add { bits, data } => &data[..bits.div_ceil(8) as usize],
-            Edit::Put { bits, data, .. } => &data[..bits.div_ceil(8) as usize],
-            _ => &[],
-        }
-    }
-
-    // Refused where fewer bits are handed in than the length says.
-    pub(crate) fn offer(self) -> Result<(), BookFault>
-        ensures { result ≡ offered (plain self.entry) }
-    {
-        match self {
-            Edit::Add { bits, data } | Edit::Put { bits, data, .. }
-                if data.len() < bits.div_ceil(8) as usize => Err(BookFault::Data),
-            _ => Ok(()),
-        }
+        Ok(match self {
+            Edit::Add { bits, data } => Fields {
+                kind: Kind::Add,
+                position: 0,
+                bits,
+                data: needed(bits, data)?,
+            },
+            Edit::Cut { bits } => Fields {
+                kind: Kind::Cut,
+                position: 0,
+                bits,
+                data: &[],
+            },
+            Edit::Put {
+                position,
+                bits,
+                data,
+            } => Fields {
+                kind: Kind::Put,
+                position,
+                bits,
+                data: needed(bits, data)?,
+            },
+            Edit::Tag { bits } => Fields {
+                kind: Kind::Tag,
+                position: 0,
+                bits,
+                data: &[],
+            },
+        })
     }
 
     // Refused where a slot does not hold so many bits.
