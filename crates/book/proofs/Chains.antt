@@ -133,9 +133,11 @@ known_cases book links slot true i p q = follow_none book links slot (eqb-true _
 known_cases book links slot false true p q =
     let next = link book slot in
     let n = eqb-false _ _ p in
-    let within = ltb-true _ _ q in
-    (within, ended_more book slot (Err (at 12 slot)) n within,
-    ap verdict (ended_more book slot (linked next (follow book links next)) n within) ∙ verdict_linked next (follow book links next))
+    let within = ltb-true _ _ q in (
+      within,
+      ended_more book slot (Err (at 12 slot)) n within,
+      ap verdict (ended_more book slot (linked next (follow book links next)) n within) ∙ verdict_linked next (follow book links next),
+    )
 known_cases book links slot false false p q =
     let n = eqb-false _ _ p in
     let beyond : slots book ≤ link book slot = ltb-false _ _ q in

@@ -3,15 +3,13 @@ use Rattle.std.specs.Prelude.{◌≡◌, ℕ, ◌*◌, false, cond, List, take, 
 use Rattle.book.specs.declared.book.Book.{Book}
 use Rattle.book.specs.declared.slot.Slot.{Slot}
 use Rattle.book.specs.declared.fault.BookFault.{BookFault}
-use Rattle.book.specs.declared.fault.BookFault.TheVariants.{Size, Link, Long}
+use Rattle.book.specs.declared.fault.BookFault.TheVariants.{Size, Link}
 use Rattle.book.specs.Slots.{slots, is_book, link}
-use Rattle.book.specs.Reading.{Edit}
-use Rattle.book.specs.Writing.{overlong}
 
 -- the bytes of a book, or refused where they are none
-abbrev pub Sized : List ℕ → Result Book BookFault → Type 0
-Sized bytes (Ok book) = book.bytes.now ≡ bytes
-Sized bytes (Err fault) = (fault ≡ Size) × (is_book bytes ≡ false)
+abbrev pub Checked : List ℕ → Result Book BookFault → Type 0
+Checked bytes (Ok book) = book.bytes.now ≡ bytes
+Checked bytes (Err fault) = (fault ≡ Size) × (is_book bytes ≡ false)
 
 -- the slot of a book that has this number
 pub record IsSlot (book : List ℕ) (n : ℕ) (slot : Slot) : Type 0 where
@@ -25,11 +23,3 @@ follower book slot = cond (link book slot == 0) None (Some (link book slot))
 -- the slot behind a slot, if any; refused where there is no such slot
 abbrev pub led : List ℕ → ℕ → Result (Option ℕ) BookFault
 led book slot = cond (link book slot == 0) (Ok None) (cond (nat_lt (link book slot) (slots book)) (Ok (Some (link book slot))) (Err (Link slot)))
-
--- refused where a slot's data have fewer bits
-abbrev pub holds : ℕ → ℕ → Result (Unit {0}) BookFault
-holds slot n = cond (nat_lt 160 n) (Err (Long slot)) (Ok tt)
-
--- refused where the slot does not hold the bits
-abbrev pub fitted : Edit → ℕ → Result (Unit {0}) BookFault
-fitted e slot = cond (overlong e) (Err (Long slot)) (Ok tt)

@@ -17,11 +17,11 @@ pub(crate) struct Book<'a> {
 impl<'a> Book<'a> {
     ghost use Rattle.std.specs.Prelude.{◌≡◌, ◌<◌};
     ghost use Rattle.book.specs.Slots.{slots};
-    ghost use Rattle.book.specs.Tests.{Sized, IsSlot, follower, led};
+    ghost use Rattle.book.specs.Tests.{Checked, IsSlot, follower, led};
 
     // Refused where the bytes are no book.
     pub(crate) fn new(bytes: &'a [u8]) -> Result<Self, BookFault>
-        ensures { Sized bytes.now result }
+        ensures { Checked bytes.now result }
     {
         let (slots, rest) = bytes.as_chunks::<SLOT_BYTES>();
         if !rest.is_empty() || slots.is_empty() || slots.len() > MOST_SLOTS {

@@ -1,12 +1,10 @@
 // An edit, and what a record's slot holds of it.
-ghost use Rattle.std.specs.Prelude.{◌≡◌, ◌*◌, ◌<◌, ◌≤◌, length, take, MatchResult};
+ghost use Rattle.std.specs.Prelude.{◌≡◌, ◌*◌, ◌<◌, ◌≤◌, length, take, MatchOption};
 ghost use Rattle.book.specs.Slots.{bytes_for};
 ghost use Rattle.book.specs.Edits.{plain, Laid};
-ghost use Rattle.book.specs.Tests.{fitted};
 
 use crate::BookFault;
 use crate::kind::Kind;
-use crate::slot::hold;
 
 // An edit, with the bytes that its bits come from.
 #[derive(Clone, Copy)]
@@ -41,11 +39,11 @@ pub(crate) struct Fields<'a> {
     pub(crate) data: &'a [u8],
 }
 
-// The bytes that so many bits need, of those handed in; refused where there are fewer.
-fn needed(bits: u32, data: &[u8]) -> Result<&[u8], BookFault>
-    ensures { MatchResult result (λ part. (bits ≤ 8 * length «data».now) × (part.now ≡ take (bytes_for bits) «data».now)) (λ fault. (8 * length «data».now < bits) × (fault ≡ BookFault.Data)) }
+// The whole bytes that so many bits need, of those at hand; none where there are fewer.
+pub(crate) fn needed(bits: u32, bytes: &[u8]) -> Option<&[u8]>
+    ensures { MatchOption result (8 * length bytes.now < bits) (λ part. (bits ≤ 8 * length bytes.now) × (part.now ≡ take (bytes_for bits) bytes.now)) }
 {
-    data.get(..bits.div_ceil(8) as usize).ok_or(BookFault::Data)
+    bytes.get(..bits.div_ceil(8) as usize)
 }
 
 impl<'a> Edit<'a> {
@@ -53,45 +51,22 @@ impl<'a> Edit<'a> {
     pub(crate) fn fields(self) -> Result<Fields<'a>, BookFault>
         ensures { Laid (plain self.entry) result }
     {
-        Ok(match self {
-            Edit::Add { bits, data } => Fields {
-                kind: Kind::Add,
-                position: 0,
-                bits,
-                data: needed(bits, data)?,
-            },
-            Edit::Cut { bits } => Fields {
-                kind: Kind::Cut,
-                position: 0,
-                bits,
-                data: &[],
-            },
+        let none: &[u8] = &[];
+        let (kind, position, bits, data) = match self {
+            Edit::Add { bits, data } => (Kind::Add, 0, bits, needed(bits, data)),
+            Edit::Cut { bits } => (Kind::Cut, 0, bits, Some(none)),
             Edit::Put {
                 position,
                 bits,
                 data,
-            } => Fields {
-                kind: Kind::Put,
-                position,
-                bits,
-                data: needed(bits, data)?,
-            },
-            Edit::Tag { bits } => Fields {
-                kind: Kind::Tag,
-                position: 0,
-                bits,
-                data: &[],
-            },
+            } => (Kind::Put, position, bits, needed(bits, data)),
+            Edit::Tag { bits } => (Kind::Tag, 0, bits, Some(none)),
+        };
+        Ok(Fields {
+            kind,
+            position,
+            bits,
+            data: data.ok_or(BookFault::Data)?,
         })
-    }
-
-    // Refused where a slot does not hold so many bits.
-    pub(crate) fn fit(self, slot: u16) -> Result<(), BookFault>
-        ensures { result ≡ fitted (plain self.entry) slot }
-    {
-        match self {
-            Edit::Add { bits, .. } | Edit::Put { bits, .. } => hold(slot, bits),
-            _ => Ok(()),
-        }
     }
 }

@@ -24,16 +24,12 @@ impl<'a> Links<'a> {
         ensures { Begun book.entry.bytes.now result }
     {
         let mut slot = 0;
-        for _passed in 1..book.slots() {
-            match book.next(slot)? {
-                None => return Ok(Links { book, slot: 0 }),
-                Some(next) => slot = next,
-            }
+        let mut passed = 1..book.slots();
+        while let Some(next) = book.next(slot)? {
+            passed.next().ok_or(BookFault::Ring { slot })?;
+            slot = next;
         }
-        match book.next(slot)? {
-            None => Ok(Links { book, slot: 0 }),
-            Some(_) => Err(BookFault::Ring { slot }),
-        }
+        Ok(Links { book, slot: 0 })
     }
 }
 

@@ -2,14 +2,13 @@
 ghost use Rattle.std.specs.Prelude.{◌≡◌, ◌+◌, ◌<◌, ◌≤◌, take, drop, MatchResult};
 ghost use Rattle.book.specs.Slots.{position as position_at, bits as bits_at, data_of};
 ghost use Rattle.book.specs.Views.{slot_entry, looked};
-ghost use Rattle.book.specs.Tests.{follower, holds};
+ghost use Rattle.book.specs.Tests.{follower};
 
+use crate::edit::needed;
 use crate::kind::Kind;
 use crate::{BookFault, Edit, Record};
 
 pub const SLOT_BYTES: usize = 32;
-
-const MOST_BITS: u32 = 160;
 
 // Where a slot's fields begin.
 const LINK: usize = 0;
@@ -22,21 +21,13 @@ pub(crate) const LENGTH: usize = 8;
 
 pub(crate) const DATA: usize = 12;
 
+pub(crate) const DATA_BYTES: usize = SLOT_BYTES - DATA;
+
 // A slot of a book, by its number.
 #[derive(Clone, Copy)]
 pub(crate) struct Slot<'a> {
     pub(crate) number: u16,
     pub(crate) bytes: &'a [u8; SLOT_BYTES],
-}
-
-// Refused where a slot does not hold so many data bits.
-pub(crate) fn hold(slot: u16, bits: u32) -> Result<(), BookFault>
-    ensures { result ≡ holds slot bits }
-{
-    if bits > MOST_BITS {
-        return Err(BookFault::Long { slot });
-    }
-    Ok(())
 }
 
 impl<'a> Slot<'a> {
@@ -77,9 +68,8 @@ impl<'a> Slot<'a> {
     fn data(self, bits: u32) -> Result<&'a [u8], BookFault>
         ensures { MatchResult result (λ part. (bits ≤ 160) × (part.now ≡ data_of self.entry.bytes.now 0 bits)) (λ fault. (160 < bits) × (fault ≡ BookFault.Long self.entry.number)) }
     {
-        hold(self.number, bits)?;
         let bytes = self.bytes;
-        Ok(&bytes[DATA..DATA + bits.div_ceil(8) as usize])
+        needed(bits, &bytes[DATA..]).ok_or(BookFault::Long { slot: self.number })
     }
 
     // The record that the slot holds: refused for its kind, then for its length.

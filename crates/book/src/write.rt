@@ -8,7 +8,7 @@ ghost use Rattle.book.specs.Writers.{after, begun, linked_in};
 
 use crate::book::Book;
 use crate::edit::Fields;
-use crate::slot::{DATA, KIND, LENGTH, POSITION};
+use crate::slot::{DATA, DATA_BYTES, KIND, LENGTH, POSITION};
 use crate::{BookFault, Edit, SLOT_BYTES, Writer};
 
 impl Fields<'_> {
@@ -61,7 +61,9 @@ impl Writer {
         let fields = edit.fields()?;
         let slots = Book::new(book)?.slots();
         let slot = self.last + 1;
-        edit.fit(slot)?;
+        if fields.data.len() > DATA_BYTES {
+            return Err(BookFault::Long { slot });
+        }
         if slot >= slots {
             return Err(BookFault::Full);
         }
