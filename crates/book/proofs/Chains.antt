@@ -23,7 +23,7 @@ ended_cases : (book : List ℕ) (slot : ℕ) (more : Result (List ℕ) Refusal) 
 ended_cases book slot more chain true i p q h = inl (eqb-true _ _ p, (cc))
 ended_cases book slot more chain false true p q h =
     inr (record { not_end = eqb-false _ _ p; inside = ltb-true _ _ q; goes_on = h })
-ended_cases book slot more chain false false p q h = absurd (let z : ◌≡◌ {A = ℕ} 0 1 = cc in omega arith)
+ended_cases book slot more chain false false p q h = cc
 
 pub ended_split : (book : List ℕ) (slot : ℕ) (more : Result (List ℕ) Refusal) (chain : List ℕ) → ended book slot more ≡ Ok chain → ((link book slot ≡ 0) × (chain ≡ [])) ⊎ Leads book slot more chain
 ended_split book slot more chain h = ended_cases book slot more chain (eqb (link book slot) 0) (ltb (link book slot) (slots book)) refl refl h
@@ -43,7 +43,7 @@ ended_stray book slot more n h =
 
 pub linked_split : (slot : ℕ) (more : Result (List ℕ) Refusal) (chain : List ℕ) → linked slot more ≡ Ok chain → (rest : List ℕ) × (more ≡ Ok rest) × (chain ≡ slot ∷ rest)
 linked_split slot (Ok rest) chain h = (rest, refl, (cc))
-linked_split slot (Err refusal) chain h = absurd (let z : ◌≡◌ {A = ℕ} 0 1 = cc in omega arith)
+linked_split slot (Err refusal) chain h = cc
 
 pub follow_none : (book : List ℕ) (links slot : ℕ) → link book slot ≡ 0 → follow book links slot ≡ Ok []
 follow_none book zero slot e = ended_none book slot (Err (at 12 slot)) e
@@ -54,7 +54,7 @@ pub follow_more : (book : List ℕ) (links slot : ℕ) (chain : List ℕ) → fo
 follow_more book zero slot chain h =
     ⊎_elim
     (λ e. ended_none book slot (linked (link book slot) (follow book zero (link book slot))) e.0 ∙ ap Ok (sym e.1))
-    (λ (l : Leads book slot (Err (at 12 slot)) chain). absurd (let g = l.goes_on in let z : ◌≡◌ {A = ℕ} 0 1 = cc in omega arith))
+    (λ (l : Leads book slot (Err (at 12 slot)) chain). (cc l.goes_on))
     (ended_split book slot (Err (at 12 slot)) chain h)
 follow_more book (suc links) slot chain h =
     let next = link book slot in
@@ -78,7 +78,7 @@ by_link : (book : List ℕ) (links slot : ℕ) (chain : List ℕ) → follow boo
 by_link book zero slot chain h n =
     ⊎_elim
     (λ (e : (link book slot ≡ 0) × (chain ≡ [])). absurd (n e.0))
-    (λ (l : Leads book slot (Err (at 12 slot)) chain). absurd (let g = l.goes_on in let z : ◌≡◌ {A = ℕ} 0 1 = cc in omega arith))
+    (λ (l : Leads book slot (Err (at 12 slot)) chain). (cc l.goes_on))
     (ended_split book slot (Err (at 12 slot)) chain h)
 by_link book (suc links) slot chain h n =
     let next = link book slot in
@@ -92,12 +92,12 @@ by_link book (suc links) slot chain h n =
 pub follower_none : (book : List ℕ) (slot : ℕ) → follower book slot ≡ None → link book slot ≡ 0
 follower_none book slot h =
     ⊎_elim (λ e. e)
-    (λ (n : link book slot ≡ 0 → ⊥). absurd (let a = ne_eqb (link book slot) 0 n in let z : ◌≡◌ {A = ℕ} 0 1 = cc (rw a at h) in omega arith))
+    (λ (n : link book slot ≡ 0 → ⊥). let a = ne_eqb (link book slot) 0 n in cc (rw a at h))
     (cases_eq (link book slot) 0)
 
 -- where a slot's follower is known
 follower_cases : (book : List ℕ) (slot next : ℕ) (z : Bool) → eqb (link book slot) 0 ≡ z → cond z None (Some (link book slot)) ≡ Some next → (link book slot ≡ next) × (link book slot ≡ 0 → ⊥)
-follower_cases book slot next true p h = absurd (let z : ◌≡◌ {A = ℕ} 0 1 = cc in omega arith)
+follower_cases book slot next true p h = cc
 follower_cases book slot next false p h = ((cc), eqb-false _ _ p)
 
 pub goes_on : (book : List ℕ) (links slot next : ℕ) (chain : List ℕ) → follow book links slot ≡ Ok chain → follower book slot ≡ Some next → Next book links next chain
@@ -151,12 +151,12 @@ known book links slot r e =
 
 -- a chain that is found to end, or refused, where another has the same verdict
 pub verdict_err : {X : Type 0} (r : Result X Refusal) (refusal : Refusal) → verdict r ≡ Err refusal → r ≡ Err refusal
-verdict_err (Ok x) refusal h = absurd (let z : ◌≡◌ {A = ℕ} 0 1 = cc in omega arith)
+verdict_err (Ok x) refusal h = cc
 verdict_err (Err r) refusal h = cc
 
 pub verdict_ok : {X : Type 0} (r : Result X Refusal) → verdict r ≡ Ok tt → is_ok r ≡ true
 verdict_ok (Ok x) h = refl
-verdict_ok (Err r) h = absurd (let z : ◌≡◌ {A = ℕ} 0 1 = cc in omega arith)
+verdict_ok (Err r) h = cc
 
 -- ---- the early look at a book of one slot says what following its links would say
 

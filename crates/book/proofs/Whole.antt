@@ -1,7 +1,6 @@
 -- A whole book: its reading by its chain, and how many records there are and where. Assumes nothing.
 use Rattle.std.proofs.Common.{◌≡◌, ℕ, zero, suc, ◌-◌, ◌%◌, ◌<◌, ◌≤◌, true, ◌&&◌, eqb, leb, List, [], ◌∷◌, length, is_ok, None, Ok, Err, Result, sym, refl, ap, ◌∙◌, subst, ⊎_elim, arith, leb-true}
 use Rattle.std.proofs.lemmas.Bool.{and_parts}
-use mathlib.Core.Bool.{false≢true}
 use Rattle.engine.specs.Refusals.{Refusal}
 use Rattle.book.specs.declared.links.Links.{Links}
 use Rattle.book.specs.Refusals.{at}
@@ -20,7 +19,7 @@ reading_is book b = rw b (ap (recorded book) (chain_is book))
 
 pub recorded_split : (book : List ℕ) (c : Result (List ℕ) Refusal) (es : List Entry) → recorded book c ≡ Ok es → (slots' : List ℕ) × (c ≡ Ok slots') × (entries book slots' ≡ Ok es)
 recorded_split book (Ok slots') es h = (slots', refl, h)
-recorded_split book (Err refusal) es h = absurd (let z : ◌≡◌ {A = ℕ} 0 1 = cc in omega arith)
+recorded_split book (Err refusal) es h = cc
 
 -- a book has 1 to 2,048 slots
 pub book_slots : (book : List ℕ) → is_book book ≡ true → (1 ≤ slots book) × (slots book ≤ 2048)
@@ -48,7 +47,7 @@ chain_short : (book : List ℕ) (links slot : ℕ) (chain : List ℕ) → follow
 chain_short book zero slot chain h =
     ⊎_elim
     (λ (e : (link book slot ≡ 0) × (chain ≡ [])). short_none book zero chain e.1)
-    (λ (l : Leads book slot (Err (at 12 slot)) chain). absurd (let g = l.goes_on in let z : ◌≡◌ {A = ℕ} 0 1 = cc in omega arith))
+    (λ (l : Leads book slot (Err (at 12 slot)) chain). (cc l.goes_on))
     (ended_split book slot (Err (at 12 slot)) chain h)
 chain_short book (suc links) slot chain h =
     let next = link book slot in
@@ -64,7 +63,7 @@ chain_short book (suc links) slot chain h =
 -- the records of a chain stand in its slots
 entries_within : (book : List ℕ) (n : ℕ) (chain : List ℕ) (es : List Entry) → entries book chain ≡ Ok es → Within n chain → Inside n es × (length es ≡ length chain)
 entries_within book n [] [] h w = (tt, refl)
-entries_within book n [] (e ∷ es) h w = absurd (let z : ◌≡◌ {A = ℕ} 0 1 = cc in omega arith)
+entries_within book n [] (e ∷ es) h w = cc
 entries_within book n (s ∷ chain) [] h w = absurd (entered_some (entry_at book s) (entries book chain) h)
 entries_within book n (s ∷ chain) (e ∷ es) h w =
     let p = entered_first (entry_at book s) (entries book chain) e es h in
@@ -88,7 +87,7 @@ reading_bounds book es b h =
 
 bounds_of : (book : List ℕ) (r : Result (List Entry) Refusal) → is_book book ≡ true → behind book 0 ≡ r → is_ok r ≡ true → Inside (slots book) (listed r) × (length (listed r) < 2048)
 bounds_of book (Ok es) b e h = reading_bounds book es b e
-bounds_of book (Err refusal) b e h = absurd (false≢true h)
+bounds_of book (Err refusal) b e h = cc
 
 -- the same where a look at each record came to the end of the chain
 pub bounds : (book : List ℕ) (links end : Links) → links.book.bytes.now ≡ book → links.slot ≡ 0 → end.book.bytes.now ≡ book → verdict (behind book end.slot) ≡ verdict (behind book 0) → follower end.book.bytes.now end.slot ≡ None
