@@ -11,7 +11,7 @@ use Rattle.book.specs.Reading.{Entry, entry_at, onwards, entered, entries, recor
 use Rattle.book.specs.Views.{slot_entry, slots_in, looked, listed, entry, Led, Gave}
 use Rattle.book.specs.Refusals.{book_refusal}
 use Rattle.book.specs.Tests.{follower}
-use Rattle.book.proofs.Fields.{slot_reads}
+use Rattle.book.proofs.Slots.{slot_reads}
 use Rattle.book.proofs.Chains.{verdict, follow_none, follower_none, goes_on}
 
 pub behind_none : (book : List ℕ) (slot : ℕ) → follower book slot ≡ None → behind book slot ≡ Ok []

@@ -7,7 +7,7 @@ use Rattle.book.specs.Refusals.{at}
 use Rattle.book.specs.Tests.{follower}
 use Rattle.book.specs.Slots.{slots, is_book, link}
 use Rattle.book.specs.Reading.{Entry, entry_at, entries, linked, follow, onwards, recorded, behind, reading, Inside}
-use Rattle.book.specs.Views.{listed}
+use Rattle.book.specs.Views.{Starts, listed}
 use Rattle.book.proofs.Walks.{behind_none}
 use Rattle.book.proofs.Chains.{verdict, verdict_ok, chain_is, Leads, ended_split, linked_split}
 use Rattle.book.proofs.Grown.{entered_first, entered_some, entry_slot}
@@ -90,9 +90,9 @@ bounds_of book (Ok es) b e h = reading_bounds book es b e
 bounds_of book (Err refusal) b e h = cc
 
 -- the same where a look at each record came to the end of the chain
-pub bounds : (book : List ℕ) (links end : Links) → links.book.bytes.now ≡ book → links.slot ≡ 0 → end.book.bytes.now ≡ book → verdict (behind book end.slot) ≡ verdict (behind book 0) → follower end.book.bytes.now end.slot ≡ None
+pub bounds : (book : List ℕ) (links end : Links) → Starts book links → end.book.bytes.now ≡ book → verdict (behind book end.slot) ≡ verdict (behind book 0) → follower end.book.bytes.now end.slot ≡ None
     → Inside (slots book) (listed (behind links.book.bytes.now links.slot)) × (length (listed (behind links.book.bytes.now links.slot)) < 2048)
-bounds book links end l s e same none =
+bounds book links end (l, s) e same none =
     let P : List ℕ → ℕ → Type 0 = λ b n. Inside (slots book) (listed (behind b n)) × (length (listed (behind b n)) < 2048) in
     let sized : is_book book ≡ true = ap is_book (sym l) ∙ links.book.sized in
     let ended : verdict (behind book 0) ≡ Ok tt = sym same ∙ ap (λ b. verdict (behind b end.slot)) (sym e) ∙ ap verdict (behind_none end.book.bytes.now end.slot none) in

@@ -10,7 +10,7 @@ use Rattle.book.specs.Reading.{Edit, adds, cuts, puts, tags, entry_of, entry_at}
 use Rattle.book.specs.Writing.{kind_of, position_of, bits_of, lacking, overlong, half_bytes, word_bytes, slot_bytes, written}
 use Rattle.book.specs.Writing as writing
 use Rattle.book.specs.Laws.{kept}
-use Rattle.book.proofs.Fields.{data_counts}
+use Rattle.book.proofs.Slots.{data_counts}
 use Rattle.book.proofs.Pastes.{paste_below, paste_inside, paste_above}
 use Rattle.book.proofs.Laid.{length_slot, length_data}
 

@@ -2,7 +2,7 @@
 use Rattle.std.specs.Prelude.{◌≡◌, ℕ, ◌-◌, true, false, List, ◌∷◌, ◌++◌, length, replicate, Ok, Err, Result}
 use Rattle.book.specs.declared.edit.Edit.TheVariants.{Add, Cut, Put, Tag}
 use Rattle.book.specs.declared.edit.Edit as handed
-use Rattle.book.specs.declared.edit.Fields.{Fields}
+use Rattle.book.specs.declared.fields.Fields.{Fields}
 use Rattle.book.specs.declared.fault.BookFault.{BookFault}
 use Rattle.book.specs.declared.fault.BookFault.TheVariants.{Data}
 use Rattle.book.specs.Kinds.{kind_number}

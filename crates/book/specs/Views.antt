@@ -31,9 +31,13 @@ abbrev pub slots_in : Result (List ℕ) Refusal → List ℕ
 slots_in (Ok chain) = chain
 slots_in (Err refusal) = []
 
--- a chain that was followed from slot 0 on to its end, or why it is refused
+-- all the links of a book, from slot 0 on
+abbrev pub Starts : List ℕ → Links → Type 0
+Starts book links = (links.book.bytes.now ≡ book) × (links.slot ≡ 0)
+
+-- a chain that was followed to its end, or why it is refused
 abbrev pub Begun : List ℕ → Result Links BookFault → Type 0
-Begun book (Ok links) = (links.book.bytes.now ≡ book) × (links.slot ≡ 0)
+Begun book (Ok links) = Starts book links
 Begun book (Err fault) = onwards book 0 ≡ Err (book_refusal fault)
 
 -- one step along a chain: none where it ends, and else the slot that the link leads to

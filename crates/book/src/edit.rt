@@ -1,9 +1,8 @@
-// An edit, and what a record's slot holds of it.
-ghost use Rattle.std.specs.Prelude.{◌≡◌, ◌*◌, ◌<◌, ◌≤◌, length, take, MatchOption};
-ghost use Rattle.book.specs.Slots.{bytes_for};
+// An edit as it is handed to a writer, and as a record has it.
 ghost use Rattle.book.specs.Edits.{plain, Laid};
 
 use crate::BookFault;
+use crate::fields::{Fields, needed};
 use crate::kind::Kind;
 
 // An edit, with the bytes that its bits come from.
@@ -28,22 +27,6 @@ pub enum Edit<'a> {
     Tag {
         bits: u32,
     },
-}
-
-// What a record's slot holds behind the link.
-#[derive(Clone, Copy)]
-pub(crate) struct Fields<'a> {
-    pub(crate) kind: Kind,
-    pub(crate) position: u32,
-    pub(crate) bits: u32,
-    pub(crate) data: &'a [u8],
-}
-
-// The whole bytes that so many bits need, of those at hand; none where there are fewer.
-pub(crate) fn needed(bits: u32, bytes: &[u8]) -> Option<&[u8]>
-    ensures { MatchOption result (8 * length bytes.now < bits) (λ part. (bits ≤ 8 * length bytes.now) × (part.now ≡ take (bytes_for bits) bytes.now)) }
-{
-    bytes.get(..bits.div_ceil(8) as usize)
 }
 
 impl<'a> Edit<'a> {

@@ -4,6 +4,7 @@
 mod book;
 mod edit;
 mod fault;
+mod fields;
 mod kind;
 mod links;
 mod reading;

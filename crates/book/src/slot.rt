@@ -1,10 +1,10 @@
 // A slot of a book, and its fields, high byte first.
-ghost use Rattle.std.specs.Prelude.{◌≡◌, ◌+◌, ◌<◌, ◌≤◌, take, drop, MatchResult};
+ghost use Rattle.std.specs.Prelude.{◌≡◌, ◌+◌, ◌≤◌, ◌↔◌, take, drop, IsOk, IfOk, IfErr};
 ghost use Rattle.book.specs.Slots.{position as position_at, bits as bits_at, data_of};
 ghost use Rattle.book.specs.Views.{slot_entry, looked};
 ghost use Rattle.book.specs.Tests.{follower};
 
-use crate::edit::needed;
+use crate::fields::needed;
 use crate::kind::Kind;
 use crate::{BookFault, Edit, Record};
 
@@ -66,7 +66,9 @@ impl<'a> Slot<'a> {
 
     // The whole bytes that so many bits need; refused where the slot does not hold them.
     fn data(self, bits: u32) -> Result<&'a [u8], BookFault>
-        ensures { MatchResult result (λ part. (bits ≤ 160) × (part.now ≡ data_of self.entry.bytes.now 0 bits)) (λ fault. (160 < bits) × (fault ≡ BookFault.Long self.entry.number)) }
+        ensures holds { IsOk result ↔ (bits ≤ 160) }
+        ensures part { IfOk result (λ part. part.now ≡ data_of self.entry.bytes.now 0 bits) }
+        ensures long { IfErr result (λ fault. fault ≡ BookFault.Long self.entry.number) }
     {
         let bytes = self.bytes;
         needed(bits, &bytes[DATA..]).ok_or(BookFault::Long { slot: self.number })

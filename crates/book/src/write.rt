@@ -1,32 +1,14 @@
 // Writing a book, record by record.
-ghost use Rattle.std.specs.Prelude.{◌≡◌, ◌+◌, ◌<◌, ◌≤◌, ◌^◌, length};
+ghost use Rattle.std.specs.Prelude.{◌≡◌, ◌+◌, ◌<◌};
 ghost use Rattle.book.specs.Slots.{slots};
 ghost use Rattle.book.specs.Writing.{putting, clearing};
 ghost use Rattle.book.specs.Laws.{Grows, Empties, ReadsBack};
-ghost use Rattle.book.specs.Edits.{plain, fields_bytes};
+ghost use Rattle.book.specs.Edits.{plain};
 ghost use Rattle.book.specs.Writers.{after, begun, linked_in};
 
 use crate::book::Book;
-use crate::edit::Fields;
-use crate::slot::{DATA, DATA_BYTES, KIND, LENGTH, POSITION};
+use crate::slot::DATA_BYTES;
 use crate::{BookFault, Edit, SLOT_BYTES, Writer};
-
-impl Fields<'_> {
-    // The bytes of a slot with these fields, not linked yet.
-    fn to_bytes(self) -> [u8; SLOT_BYTES]
-        requires { length self.data.now ≤ 20 }
-        ensures bytes { result ≡ fields_bytes self.entry }
-        ensures position { self.entry.position < 2 ^ 32 }
-        ensures bits { self.entry.bits < 2 ^ 32 }
-    {
-        let mut bytes = [0; SLOT_BYTES];
-        bytes[KIND] = self.kind.into();
-        bytes[POSITION..LENGTH].copy_from_slice(&self.position.to_be_bytes());
-        bytes[LENGTH..DATA].copy_from_slice(&self.bits.to_be_bytes());
-        bytes[DATA..DATA + self.data.len()].copy_from_slice(self.data);
-        bytes
-    }
-}
 
 // Fills the slot behind `last`, and links it from there.
 fn fill_slot(book: &mut [u8], last: u16, bytes: &[u8; SLOT_BYTES])

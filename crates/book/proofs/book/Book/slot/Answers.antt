@@ -1,5 +1,5 @@
 use Rattle.std.proofs.Common.{◌/◌, [], length, get_or, refl, ap, ◌∙◌, arith}
-use Rattle.book.proofs.Fields.{chunk_at}
+use Rattle.book.proofs.Slots.{chunk_at}
 use Rattle.book.proofs.book.Book.slot.Goals as goal
 
 pub returns : goal.returns

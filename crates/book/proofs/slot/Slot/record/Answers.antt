@@ -1,4 +1,4 @@
-use Rattle.book.proofs.Fields.{no_kind}
+use Rattle.book.proofs.Slots.{no_kind}
 use Rattle.book.proofs.slot.Slot.record.Goals as goal
 
 pub returns-in_default : goal.returns-in_default

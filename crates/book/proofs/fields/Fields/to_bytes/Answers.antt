@@ -1,6 +1,6 @@
 use Rattle.std.proofs.Common.{◌+◌, ◌-◌, length, ◌∙◌, arith}
 use Rattle.book.proofs.Laid.{laid}
-use Rattle.book.proofs.edit.Fields.to_bytes.Goals as goal
+use Rattle.book.proofs.fields.Fields.to_bytes.Goals as goal
 
 pub returns-clause-bytes : goal.returns-clause-bytes
 returns-clause-bytes c =

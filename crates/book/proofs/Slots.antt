@@ -38,10 +38,14 @@ byte_in : (book : List ℕ) (slot i j : ℕ) → i ≡ slot * 32 + j → j < 32 
 byte_in book slot i j e h =
     get_or-take 32 (drop (slot * 32) book) j 0 h ∙ get_or-drop (slot * 32) book j 0 ∙ ap (λ k. get_or book k 0) (sym e)
 
+-- of a slot's twenty data bytes, those that no more than 160 bits need
+pub data_part : (n : ℕ) (bytes : List ℕ) → n ≤ 160 → take (bytes_for n) (take 20 (drop 12 bytes)) ≡ data_of bytes 0 n
+data_part n bytes h = take-take (bytes_for n) 20 (drop 12 bytes) (omega arith)
+
 data_in : (book : List ℕ) (slot n : ℕ) → n ≤ 160 → data_of (take 32 (drop (slot * 32) book)) 0 n ≡ data_of book slot n
 data_in book slot n h =
     ap (take (bytes_for n)) (drop-take 12 20 (drop (slot * 32) book))
-    ∙ take-take (bytes_for n) 20 (drop 12 (drop (slot * 32) book)) (omega arith)
+    ∙ data_part n (drop (slot * 32) book) h
     ∙ ap (take (bytes_for n)) (drop-drop 12 (slot * 32) book)
 
 fields_in : (book : List ℕ) (slot : ℕ) → let b = take 32 (drop (slot * 32) book) in entry_of slot (kind b 0) (position b 0) (bits b 0) (data_of b 0 (bits b 0)) ≡ entry_at book slot
