@@ -10,7 +10,7 @@ use crate::book::Book;
 use crate::slot::DATA_BYTES;
 use crate::{BookFault, Edit, SLOT_BYTES, Writer};
 
-// Fills the slot behind `last`, and links it from there.
+// Fills the slot behind `last`, and links it from there. By ranges, as `as_chunks_mut` does not say what the book becomes.
 fn fill_slot(book: &mut [u8], last: u16, bytes: &[u8; SLOT_BYTES])
     requires free { last + 1 < slots book.old }
     requires few { last < 2048 }
