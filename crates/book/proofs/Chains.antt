@@ -1,12 +1,14 @@
 -- Chains: how a chain goes on behind a slot, and that it does not matter how many more links may be followed. Assumes nothing.
-use Rattle.std.proofs.Common.{◌≡◌, ℕ, zero, suc, ◌-◌, ◌<◌, ◌≤◌, Bool, true, false, cond, eqb, ltb, ◌⊎◌, List, [], ◌∷◌, Some, None, Ok, Err, Result, sym, refl, ap, ◌∙◌, subst, inl, inr, ⊎_elim, arith, ltb-true, le-ltb, lt-ltb, eq-eqb, ne_eqb, eqb-true}
+use Rattle.std.proofs.Common.{◌≡◌, ℕ, zero, suc, ◌-◌, ◌<◌, ◌≤◌, Bool, true, false, cond, eqb, ltb, ◌⊎◌, List, [], ◌∷◌, Some, None, Ok, Err, Result, sym, refl, ap, ◌∙◌, subst, inl, inr, ⊎_elim, arith, ltb-true, le-ltb, lt-ltb, eq-eqb, ne_eqb, eqb-true, ltb-false, is_ok, Option}
 use borrow.Author.Tests.{eqb-false}
 use Rattle.std.proofs.lemmas.Bool.{cases_eq}
 use Rattle.engine.specs.Refusals.{Refusal}
-use Rattle.book.specs.Refusals.{at}
+use Rattle.book.specs.Refusals.{at, book_refusal}
+use Rattle.book.specs.declared.fault.BookFault.{BookFault}
+use Rattle.book.specs.declared.fault.BookFault.TheVariants.{Link}
 use Rattle.book.specs.Slots.{slots, link}
 use Rattle.book.specs.Reading.{linked, ended, follow, onwards, chain}
-use Rattle.book.specs.Tests.{follower, verdict}
+use Rattle.book.specs.Tests.{follower, led}
 
 -- ---- what a slot's link says
 
@@ -21,7 +23,7 @@ ended_cases : (book : List ℕ) (slot : ℕ) (more : Result (List ℕ) Refusal) 
 ended_cases book slot more chain true i p q h = inl (eqb-true _ _ p, (cc))
 ended_cases book slot more chain false true p q h =
     inr (record { not_end = eqb-false _ _ p; inside = ltb-true _ _ q; goes_on = h })
-ended_cases book slot more chain false false p q h = absurd (let z : ◌≡◌ {A = ℕ} 0 1 = cc in omega arith)
+ended_cases book slot more chain false false p q h = cc
 
 pub ended_split : (book : List ℕ) (slot : ℕ) (more : Result (List ℕ) Refusal) (chain : List ℕ) → ended book slot more ≡ Ok chain → ((link book slot ≡ 0) × (chain ≡ [])) ⊎ Leads book slot more chain
 ended_split book slot more chain h = ended_cases book slot more chain (eqb (link book slot) 0) (ltb (link book slot) (slots book)) refl refl h
@@ -41,7 +43,7 @@ ended_stray book slot more n h =
 
 pub linked_split : (slot : ℕ) (more : Result (List ℕ) Refusal) (chain : List ℕ) → linked slot more ≡ Ok chain → (rest : List ℕ) × (more ≡ Ok rest) × (chain ≡ slot ∷ rest)
 linked_split slot (Ok rest) chain h = (rest, refl, (cc))
-linked_split slot (Err refusal) chain h = absurd (let z : ◌≡◌ {A = ℕ} 0 1 = cc in omega arith)
+linked_split slot (Err refusal) chain h = cc
 
 pub follow_none : (book : List ℕ) (links slot : ℕ) → link book slot ≡ 0 → follow book links slot ≡ Ok []
 follow_none book zero slot e = ended_none book slot (Err (at 12 slot)) e
@@ -52,7 +54,7 @@ pub follow_more : (book : List ℕ) (links slot : ℕ) (chain : List ℕ) → fo
 follow_more book zero slot chain h =
     ⊎_elim
     (λ e. ended_none book slot (linked (link book slot) (follow book zero (link book slot))) e.0 ∙ ap Ok (sym e.1))
-    (λ (l : Leads book slot (Err (at 12 slot)) chain). absurd (let g = l.goes_on in let z : ◌≡◌ {A = ℕ} 0 1 = cc in omega arith))
+    (λ (l : Leads book slot (Err (at 12 slot)) chain). (cc l.goes_on))
     (ended_split book slot (Err (at 12 slot)) chain h)
 follow_more book (suc links) slot chain h =
     let next = link book slot in
@@ -76,7 +78,7 @@ by_link : (book : List ℕ) (links slot : ℕ) (chain : List ℕ) → follow boo
 by_link book zero slot chain h n =
     ⊎_elim
     (λ (e : (link book slot ≡ 0) × (chain ≡ [])). absurd (n e.0))
-    (λ (l : Leads book slot (Err (at 12 slot)) chain). absurd (let g = l.goes_on in let z : ◌≡◌ {A = ℕ} 0 1 = cc in omega arith))
+    (λ (l : Leads book slot (Err (at 12 slot)) chain). (cc l.goes_on))
     (ended_split book slot (Err (at 12 slot)) chain h)
 by_link book (suc links) slot chain h n =
     let next = link book slot in
@@ -87,50 +89,74 @@ by_link book (suc links) slot chain h n =
     record { inside = l.inside; rest = t.0; chain_is = t.2; rest_is = follow_more book links next t.0 t.1 })
     (ended_split book slot (linked next (follow book links next)) chain h)
 
--- where a slot's follower is known
-follower_cases : (book : List ℕ) (slot next : ℕ) (z : Bool) → eqb (link book slot) 0 ≡ z → cond z None (Some (link book slot)) ≡ Some next → (link book slot ≡ next) × (link book slot ≡ 0 → ⊥)
-follower_cases book slot next true p h = absurd (let z : ◌≡◌ {A = ℕ} 0 1 = cc in omega arith)
-follower_cases book slot next false p h = ((cc), eqb-false _ _ p)
-
-pub follower_some : (book : List ℕ) (slot next : ℕ) → follower book slot ≡ Some next → (link book slot ≡ next) × (link book slot ≡ 0 → ⊥)
-follower_some book slot next h = follower_cases book slot next (eqb (link book slot) 0) refl h
-
 pub follower_none : (book : List ℕ) (slot : ℕ) → follower book slot ≡ None → link book slot ≡ 0
 follower_none book slot h =
     ⊎_elim (λ e. e)
-    (λ (n : link book slot ≡ 0 → ⊥). absurd (let a = ne_eqb (link book slot) 0 n in let z : ◌≡◌ {A = ℕ} 0 1 = cc (rw a at h) in omega arith))
+    (λ (n : link book slot ≡ 0 → ⊥). let a = ne_eqb (link book slot) 0 n in cc (rw a at h))
     (cases_eq (link book slot) 0)
+
+-- where a slot's follower is known
+follower_cases : (book : List ℕ) (slot next : ℕ) (z : Bool) → eqb (link book slot) 0 ≡ z → cond z None (Some (link book slot)) ≡ Some next → (link book slot ≡ next) × (link book slot ≡ 0 → ⊥)
+follower_cases book slot next true p h = cc
+follower_cases book slot next false p h = ((cc), eqb-false _ _ p)
 
 pub goes_on : (book : List ℕ) (links slot next : ℕ) (chain : List ℕ) → follow book links slot ≡ Ok chain → follower book slot ≡ Some next → Next book links next chain
 goes_on book links slot next chain h e =
-    let f = follower_some book slot next e in
+    let f = follower_cases book slot next (eqb (link book slot) 0) refl e in
     let P : ℕ → Type 0 = λ k. Next book links k chain in subst P f.0 (by_link book links slot chain h f.1)
 
 -- ---- following a chain link by link
 
-follow_cases : (P : ℕ → Type 0) → P 0 → ((k : ℕ) → P (suc k)) → (n : ℕ) → P n
-follow_cases P z s zero = z
-follow_cases P z s (suc k) = s k
-
-pub follow_stray : (book : List ℕ) (links slot next : ℕ) → follower book slot ≡ Some next → slots book ≤ next → follow book links slot ≡ Err (at 11 slot)
-follow_stray book links slot next e h =
-    let f = follower_some book slot next e in
-    let beyond : slots book ≤ link book slot = omega (arith, f.0) in
-    follow_cases (λ n. follow book n slot ≡ Err (at 11 slot)) (ended_stray book slot (Err (at 12 slot)) f.1 beyond)
-    (λ k. ended_stray book slot (linked (link book slot) (follow book k (link book slot))) f.1 beyond) links
+-- whether there is anything to refuse
+abbrev pub verdict : {X : Type 0} → Result X Refusal → Result (Unit {0}) Refusal
+verdict (Ok x) = Ok tt
+verdict (Err refusal) = Err refusal
 
 verdict_linked : (slot : ℕ) (more : Result (List ℕ) Refusal) → verdict (linked slot more) ≡ verdict more
 verdict_linked slot (Ok chain) = refl
 verdict_linked slot (Err refusal) = refl
 
-pub follow_on : (book : List ℕ) (links slot next : ℕ) → follower book slot ≡ Some next → next < slots book → (links ≡ 0 → ⊥) → verdict (follow book (links - 1) next) ≡ verdict (follow book links slot)
-follow_on book zero slot next e h n = absurd (n refl)
-follow_on book (suc links) slot next e h n =
-    let f = follower_some book slot next e in
-    let one : suc links - 1 ≡ links = omega arith in
-    ap (λ k. verdict (follow book k next)) one ∙ ap (λ k. verdict (follow book links k)) (sym f.0)
-    ∙ sym (verdict_linked (link book slot) (follow book links (link book slot)))
-    ∙ ap verdict (sym (ended_more book slot (linked (link book slot) (follow book links (link book slot))) f.1 (omega (arith, f.0))))
+-- what is known of a chain from what is said of a slot's link, where so many links may be followed
+abbrev pub Known : List ℕ → ℕ → ℕ → Result (Option ℕ) BookFault → Type 0
+Known book links slot (Ok None) = follow book links slot ≡ Ok []
+Known book links slot (Ok (Some next)) =
+    (next < slots book) × (follow book 0 slot ≡ Err (at 12 slot)) × (verdict (follow book (suc links) slot) ≡ verdict (follow book links next))
+Known book links slot (Err fault) = follow book links slot ≡ Err (book_refusal fault)
+
+follow_cases : (P : ℕ → Type 0) → P 0 → ((k : ℕ) → P (suc k)) → (n : ℕ) → P n
+follow_cases P z s zero = z
+follow_cases P z s (suc k) = s k
+
+known_cases : (book : List ℕ) (links slot : ℕ) (z i : Bool) → eqb (link book slot) 0 ≡ z → ltb (link book slot) (slots book) ≡ i
+    → Known book links slot (cond z (Ok None) (cond i (Ok (Some (link book slot))) (Err (Link slot))))
+known_cases book links slot true i p q = follow_none book links slot (eqb-true _ _ p)
+known_cases book links slot false true p q =
+    let next = link book slot in
+    let n = eqb-false _ _ p in
+    let within = ltb-true _ _ q in (
+      within,
+      ended_more book slot (Err (at 12 slot)) n within,
+      ap verdict (ended_more book slot (linked next (follow book links next)) n within) ∙ verdict_linked next (follow book links next),
+    )
+known_cases book links slot false false p q =
+    let n = eqb-false _ _ p in
+    let beyond : slots book ≤ link book slot = ltb-false _ _ q in
+    follow_cases (λ k. follow book k slot ≡ Err (at 11 slot)) (ended_stray book slot (Err (at 12 slot)) n beyond)
+    (λ k. ended_stray book slot (linked (link book slot) (follow book k (link book slot))) n beyond) links
+
+pub known : (book : List ℕ) (links slot : ℕ) (r : Result (Option ℕ) BookFault) → r ≡ led book slot → Known book links slot r
+known book links slot r e =
+    let P : Result (Option ℕ) BookFault → Type 0 = λ x. Known book links slot x in
+    subst P (sym e) (known_cases book links slot (eqb (link book slot) 0) (ltb (link book slot) (slots book)) refl refl)
+
+-- a chain that is found to end, or refused, where another has the same verdict
+pub verdict_err : {X : Type 0} (r : Result X Refusal) (refusal : Refusal) → verdict r ≡ Err refusal → r ≡ Err refusal
+verdict_err (Ok x) refusal h = cc
+verdict_err (Err r) refusal h = cc
+
+pub verdict_ok : {X : Type 0} (r : Result X Refusal) → verdict r ≡ Ok tt → is_ok r ≡ true
+verdict_ok (Ok x) h = refl
+verdict_ok (Err r) h = cc
 
 -- ---- the early look at a book of one slot says what following its links would say
 

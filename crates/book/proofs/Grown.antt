@@ -37,7 +37,7 @@ module _ (old new : List ℕ) (last : ℕ) (g : Linked old new last) where
       ∙ ap (linked (slot + 1)) (follow_none new links (slot + 1) none)
   row_grows (suc n) (suc links) slot h e f =
       ⊎_elim
-      (λ (none : (link old slot ≡ 0) × (row (slot + 1) (suc n) ≡ [])). absurd (let z : ◌≡◌ {A = ℕ} 0 1 = cc none.1 in omega arith))
+      (λ (none : (link old slot ≡ 0) × (row (slot + 1) (suc n) ≡ [])). (cc none.1))
       (λ (l : Leads old slot (linked (link old slot) (follow old links (link old slot))) (row (slot + 1) (suc n))).
       let t = linked_split (link old slot) (follow old links (link old slot)) (row (slot + 1) (suc n)) l.goes_on in
       let was : link old slot ≡ slot + 1 = cc t.2 in
@@ -56,7 +56,7 @@ module _ (old new : List ℕ) (last : ℕ) (g : Linked old new last) where
 
 -- a record stands in the slot that it was read from
 in_data_lem : (slot n : ℕ) (e : Edit) (t : Bool) (x : Entry) → cond t (Err (at 14 slot)) (in_slot slot e) ≡ Ok x → x.slot ≡ slot
-in_data_lem slot n e true x h = absurd (let z : ◌≡◌ {A = ℕ} 0 1 = cc in omega arith)
+in_data_lem slot n e true x h = cc
 in_data_lem slot n e false x h = cc
 
 in_slot_lem : (slot : ℕ) (e : Edit) (x : Entry) → in_slot slot e ≡ Ok x → x.slot ≡ slot
@@ -69,7 +69,7 @@ entry_cases slot position n bytes true b c d t x h = in_data_lem slot n (adds n 
 entry_cases slot position n bytes false true c d t x h = in_slot_lem slot (cuts n) x h
 entry_cases slot position n bytes false false true d t x h = in_data_lem slot n (puts position n bytes) t x h
 entry_cases slot position n bytes false false false true t x h = in_slot_lem slot (tags n) x h
-entry_cases slot position n bytes false false false false t x h = absurd (let z : ◌≡◌ {A = ℕ} 0 1 = cc in omega arith)
+entry_cases slot position n bytes false false false false t x h = cc
 
 pub entry_slot : (book : List ℕ) (slot : ℕ) (x : Entry) → entry_at book slot ≡ Ok x → x.slot ≡ slot
 entry_slot book slot x h =
@@ -78,18 +78,18 @@ entry_slot book slot x h =
 -- records that begin with one
 pub entered_first : (a : Result Entry Refusal) (b : Result (List Entry) Refusal) (x : Entry) (xs : List Entry) → entered a b ≡ Ok (x ∷ xs) → (a ≡ Ok x) × (b ≡ Ok xs)
 entered_first (Ok y) (Ok ys) x xs h = ((cc), (cc))
-entered_first (Ok y) (Err refusal) x xs h = absurd (let z : ◌≡◌ {A = ℕ} 0 1 = cc in omega arith)
-entered_first (Err refusal) b x xs h = absurd (let z : ◌≡◌ {A = ℕ} 0 1 = cc in omega arith)
+entered_first (Ok y) (Err refusal) x xs h = cc
+entered_first (Err refusal) b x xs h = cc
 
 pub entered_some : (a : Result Entry Refusal) (b : Result (List Entry) Refusal) → entered a b ≡ Ok [] → ⊥
-entered_some (Ok y) (Ok ys) h = let z : ◌≡◌ {A = ℕ} 0 1 = cc in omega arith
-entered_some (Ok y) (Err refusal) h = let z : ◌≡◌ {A = ℕ} 0 1 = cc in omega arith
-entered_some (Err refusal) b h = let z : ◌≡◌ {A = ℕ} 0 1 = cc in omega arith
+entered_some (Ok y) (Ok ys) h = cc
+entered_some (Ok y) (Err refusal) h = cc
+entered_some (Err refusal) b h = cc
 
 -- records in order stand in slots in a row
 pub row_of : (book chain : List ℕ) (slot : ℕ) (edits : List Edit) → entries book chain ≡ Ok (in_order slot edits) → chain ≡ row slot (length edits)
 row_of book [] slot [] h = refl
-row_of book [] slot (e ∷ edits) h = absurd (let z : ◌≡◌ {A = ℕ} 0 1 = cc in omega arith)
+row_of book [] slot (e ∷ edits) h = cc
 row_of book (s ∷ chain) slot [] h = absurd (entered_some (entry_at book s) (entries book chain) h)
 row_of book (s ∷ chain) slot (e ∷ edits) h =
     let p = entered_first (entry_at book s) (entries book chain) (record { slot = slot; edit = e }) (in_order (slot + 1) edits) h in
@@ -103,7 +103,7 @@ pub entries_grow : (old new : List ℕ) (last : ℕ) (x : Edit) → ((k : ℕ) �
 entries_grow old new last x same fresh zero slot [] h e =
     let here : slot ≡ last + 1 = omega arith in
     ap (λ a. entered a (Ok [])) (ap (entry_at new) here ∙ fresh ∙ ap (λ k. Ok (record { slot = k; edit = x })) (sym here))
-entries_grow old new last x same fresh zero slot (y ∷ edits) h e = absurd (let z : ◌≡◌ {A = ℕ} 0 1 = cc in omega arith)
+entries_grow old new last x same fresh zero slot (y ∷ edits) h e = cc
 entries_grow old new last x same fresh (suc n) slot [] h e = absurd (entered_some (entry_at old slot) (entries old (row (slot + 1) n)) h)
 entries_grow old new last x same fresh (suc n) slot (y ∷ edits) h e =
     let p = entered_first (entry_at old slot) (entries old (row (slot + 1) n)) (record { slot = slot; edit = y }) (in_order (slot + 1) edits) h in

@@ -78,7 +78,7 @@ clear_law book a is =
     subst P (sym is)
     (cond_both (is_book book) done (sent book 0 (numbered 10)) P
     (λ b _. holds_none (length book) (still_book (replicate (length book) 0) book (length-replicate (length book) 0) ∙ b))
-    (λ _ h. absurd (let z : ◌≡◌ {A = ℕ} 0 1 = cc in omega arith)))
+    (λ _ h. (cc)))
 
 -- ---- any list of edits
 

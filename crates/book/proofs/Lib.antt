@@ -1,5 +1,6 @@
 pub mod Chains
 pub mod Walks
+pub mod Slots
 pub mod Laid
 pub mod Pastes
 pub mod Written

@@ -1,61 +1,29 @@
 -- Walks: the records behind a slot, one step on. Assumes nothing.
-use Rattle.std.proofs.Common.{◌≡◌, ℕ, ◌-◌, ◌<◌, true, List, [], ◌∷◌, length, IfSome, is_ok, Some, None, Ok, Err, Option, Result, sym, refl, ap, ◌∙◌, arith}
-use mathlib.Core.Bool.{false≢true}
+use Rattle.std.proofs.Common.{◌≡◌, ℕ, ◌-◌, ◌<◌, true, List, [], ◌∷◌, length, IfSome, is_ok, Some, None, Ok, Err, Option, Result, sym, refl, ap, ◌∙◌, subst, arith}
 use Rattle.std.specs.Result.{result_ok}
 use Rattle.engine.specs.Refusals.{Refusal}
 use Rattle.book.specs.declared.fault.BookFault.{BookFault}
+use Rattle.book.specs.declared.links.Links.{Links}
+use Rattle.book.specs.declared.slot.Slot.{Slot}
 use Rattle.book.specs.declared.«record».Record.{Record}
 use Rattle.book.specs.Slots.{slots}
 use Rattle.book.specs.Reading.{Entry, entry_at, onwards, entered, entries, recorded, behind}
-use Rattle.book.specs.Views.{looked, listed, entry, Gave}
+use Rattle.book.specs.Views.{slot_entry, slots_in, looked, listed, entry, Led, Gave}
 use Rattle.book.specs.Refusals.{book_refusal}
-use Rattle.book.specs.Tests.{follower, verdict}
-use Rattle.book.proofs.Chains.{follow_none, follower_none, goes_on}
+use Rattle.book.specs.Tests.{follower}
+use Rattle.book.proofs.Slots.{slot_reads}
+use Rattle.book.proofs.Chains.{verdict, follow_none, follower_none, goes_on}
 
 pub behind_none : (book : List ℕ) (slot : ℕ) → follower book slot ≡ None → behind book slot ≡ Ok []
 behind_none book slot e = ap (recorded book) (follow_none book (slots book - 1) slot (follower_none book slot e))
 
--- what is known of a slot from which a walk goes on to the next
-pub record Onward (book : List ℕ) (slot next : ℕ) : Type 0 where
-  pub inside : next < slots book
-  pub first : Entry
-  pub rest : List Entry
-  pub first_is : entry_at book next ≡ Ok first
-  pub rest_is : behind book next ≡ Ok rest
-  pub all_is : behind book slot ≡ Ok (first ∷ rest)
-
--- a chain that has records
-chained : (book : List ℕ) (c : Result (List ℕ) Refusal) → is_ok (recorded book c) ≡ true → (chain : List ℕ) × (c ≡ Ok chain) × (is_ok (entries book chain) ≡ true)
-chained book (Ok chain) h = (chain, refl, h)
-chained book (Err refusal) h = absurd (false≢true h)
-
 -- records that begin with one
 entered_split : (a : Result Entry Refusal) (b : Result (List Entry) Refusal) → is_ok (entered a b) ≡ true → (first : Entry) × (rest : List Entry) × (a ≡ Ok first) × (b ≡ Ok rest)
 entered_split (Ok first) (Ok rest) h = (first, rest, refl, refl)
-entered_split (Ok first) (Err refusal) h = absurd (false≢true h)
-entered_split (Err refusal) b h = absurd (false≢true h)
+entered_split (Ok first) (Err refusal) h = cc
+entered_split (Err refusal) b h = cc
 
-pub onward : (book : List ℕ) (slot next : ℕ) → is_ok (behind book slot) ≡ true → follower book slot ≡ Some next → Onward book slot next
-onward book slot next h e =
-    let t = chained book (onwards book slot) h in
-    let n = goes_on book (slots book - 1) slot next t.0 t.1 e in
-    let more : is_ok (entered (entry_at book next) (entries book n.rest)) ≡ true = sym (ap (λ c. is_ok (entries book c)) n.chain_is) ∙ t.2 in
-    let p = entered_split (entry_at book next) (entries book n.rest) more in
-    let all : behind book slot ≡ entered (entry_at book next) (entries book n.rest) = ap (recorded book) t.1 ∙ ap (entries book) n.chain_is in
-    record {
-      inside = n.inside;
-      first = p.0;
-      rest = p.1;
-      first_is = p.2;
-      rest_is = ap (recorded book) n.rest_is ∙ p.3;
-      all_is = all ∙ ap (λ a. entered a (entries book n.rest)) p.2 ∙ ap (entered (Ok p.0)) p.3;
-    }
-
--- ---- a look at each record of a chain
-
-abbrev pub slots_in : Result (List ℕ) Refusal → List ℕ
-slots_in (Ok chain) = chain
-slots_in (Err refusal) = []
+-- ---- one step along a chain that ends
 
 pub record Look (book : List ℕ) (slot next : ℕ) : Type 0 where
   pub inside : next < slots book
@@ -79,26 +47,74 @@ found book slot next chain h e =
 
 followed : (book : List ℕ) (slot next : ℕ) (c : Result (List ℕ) Refusal) → onwards book slot ≡ c → is_ok c ≡ true → follower book slot ≡ Some next → Look book slot next
 followed book slot next (Ok chain) h o e = found book slot next chain h e
-followed book slot next (Err refusal) h o e = absurd (false≢true o)
+followed book slot next (Err refusal) h o e = cc
 
 pub look_on : (book : List ℕ) (slot next : ℕ) → is_ok (onwards book slot) ≡ true → follower book slot ≡ Some next → Look book slot next
 look_on book slot next o e = followed book slot next (onwards book slot) refl o e
 
-pub look_right : (r : Record) (a : Result Entry Refusal) (b : Result (List Entry) Refusal) → looked (Ok r) ≡ a → verdict (entered a b) ≡ verdict b
+look_right : (r : Record) (a : Result Entry Refusal) (b : Result (List Entry) Refusal) → looked (Ok r) ≡ a → verdict b ≡ verdict (entered a b)
 look_right r (Ok first) (Ok rest) h = refl
 look_right r (Ok first) (Err refusal) h = refl
-look_right r (Err refusal) b h = absurd (let z : ◌≡◌ {A = ℕ} 0 1 = cc in omega arith)
+look_right r (Err refusal) b h = cc
 
-pub look_wrong : (f : BookFault) (a : Result Entry Refusal) (b : Result (List Entry) Refusal) → looked (Err f) ≡ a → Err (book_refusal f) ≡ verdict (entered a b)
-look_wrong f a b h = ap (λ x. verdict (entered x b)) h
+-- a record that is not refused: those behind it say whether any is
+pub passed : (before after : Links) (slot : Slot) → Led before (Some slot) after → (r : Record) → looked (Ok r) ≡ slot_entry slot
+    → verdict (behind before.book.bytes.now after.slot) ≡ verdict (behind before.book.bytes.now before.slot)
+passed before after slot led r e =
+    let book = before.book.bytes.now in
+    look_right r (entry_at book after.slot) (behind book after.slot) (e ∙ slot_reads book after.slot slot led.2)
+    ∙ ap verdict (sym (look_on book before.slot after.slot before.ends led.0).behind_is)
+
+-- a record that is refused
+pub refused : (before after : Links) (slot : Slot) → Led before (Some slot) after → (f : BookFault) → looked (Err f) ≡ slot_entry slot → verdict (behind before.book.bytes.now before.slot) ≡ Err (book_refusal f)
+refused before after slot led f e =
+    let book = before.book.bytes.now in
+    ap verdict (look_on book before.slot after.slot before.ends led.0).behind_is
+    ∙ ap (λ a. verdict (entered a (behind book after.slot))) (sym (e ∙ slot_reads book after.slot slot led.2))
 
 -- ---- what a step of a walk gives
+
+-- what is known of a slot from which a walk goes on to the next
+pub record Onward (book : List ℕ) (slot next : ℕ) : Type 0 where
+  pub first : Entry
+  pub rest : List Entry
+  pub first_is : entry_at book next ≡ Ok first
+  pub rest_is : behind book next ≡ Ok rest
+  pub all_is : behind book slot ≡ Ok (first ∷ rest)
+
+pub onward : (book : List ℕ) (slot next : ℕ) → is_ok (behind book slot) ≡ true → behind book slot ≡ entered (entry_at book next) (behind book next) → Onward book slot next
+onward book slot next h e =
+    let p = entered_split (entry_at book next) (behind book next) (sym (ap is_ok e) ∙ h) in
+    record {
+      first = p.0;
+      rest = p.1;
+      first_is = p.2;
+      rest_is = p.3;
+      all_is = e ∙ ap (λ a. entered a (behind book next)) p.2 ∙ ap (entered (Ok p.0)) p.3;
+    }
+
+-- the records behind a slot stay right along a step
+pub still_sound : (before : Links) (o : Option Slot) (after : Links) → Led before o after → is_ok (behind before.book.bytes.now before.slot) ≡ true → is_ok (behind after.book.bytes.now after.slot) ≡ true
+still_sound before None after led h = ap (λ b. is_ok (behind b after.slot)) led.1 ∙ ap (λ s. is_ok (behind before.book.bytes.now s)) led.2 ∙ h
+still_sound before (Some slot) after led h =
+    let book = before.book.bytes.now in
+    let look = look_on book before.slot after.slot before.ends led.0 in
+    ap (λ b. is_ok (behind b after.slot)) led.1 ∙ ap is_ok (onward book before.slot after.slot h look.behind_is).rest_is
 
 pub gave : (book : List ℕ) (slot next : ℕ) → Onward book slot next → (r : Result Record BookFault) → looked r ≡ entry_at book next
     → Gave (listed (behind book slot)) (result_ok r) (listed (behind book next))
 gave book slot next o (Ok x) e =
     let f : entry x ≡ o.first = cc (o.first_is, e) in ap listed o.all_is ∙ (cc (f, ap listed o.rest_is))
-gave book slot next o (Err fault) e = absurd (let z : ◌≡◌ {A = ℕ} 0 1 = cc (o.first_is, e) in omega arith)
+gave book slot next o (Err fault) e = cc (o.first_is, e)
+
+pub walked : (before after : Links) (slot : Slot) → Led before (Some slot) after → is_ok (behind before.book.bytes.now before.slot) ≡ true → (r : Result Record BookFault) → looked r ≡ slot_entry slot
+    → Gave (listed (behind before.book.bytes.now before.slot)) (result_ok r) (listed (behind after.book.bytes.now after.slot))
+walked before after slot led h r e =
+    let book = before.book.bytes.now in
+    let look = look_on book before.slot after.slot before.ends led.0 in
+    let o = onward book before.slot after.slot h look.behind_is in
+    let P : List ℕ → Type 0 = λ b. Gave (listed (behind book before.slot)) (result_ok r) (listed (behind b after.slot)) in
+    subst P (sym led.1) (gave book before.slot after.slot o r (e ∙ slot_reads book after.slot slot led.2))
 
 pub shorter : (before after : List Entry) (o : Option Record) → Gave before o after → IfSome o (λ _. Unit {0} × Unit {0} × (length after < length before))
 shorter before after None g = tt

@@ -1,13 +1,15 @@
 -- A whole book: its reading by its chain, and how many records there are and where. Assumes nothing.
-use Rattle.std.proofs.Common.{◌≡◌, ℕ, zero, suc, ◌-◌, ◌%◌, ◌<◌, ◌≤◌, true, false, ◌&&◌, eqb, leb, List, [], ◌∷◌, length, Ok, Err, Result, sym, refl, ap, ◌∙◌, subst, ⊎_elim, arith, leb-true}
-use Rattle.std.proofs.lemmas.Bool.{and_parts, cases_Bool}
+use Rattle.std.proofs.Common.{◌≡◌, ℕ, zero, suc, ◌-◌, ◌%◌, ◌<◌, ◌≤◌, true, ◌&&◌, eqb, leb, List, [], ◌∷◌, length, is_ok, None, Ok, Err, Result, sym, refl, ap, ◌∙◌, subst, ⊎_elim, arith, leb-true}
+use Rattle.std.proofs.lemmas.Bool.{and_parts}
 use Rattle.engine.specs.Refusals.{Refusal}
-use Rattle.book.specs.Refusals.{numbered, at}
+use Rattle.book.specs.declared.links.Links.{Links}
+use Rattle.book.specs.Refusals.{at}
+use Rattle.book.specs.Tests.{follower}
 use Rattle.book.specs.Slots.{slots, is_book, link}
 use Rattle.book.specs.Reading.{Entry, entry_at, entries, linked, follow, onwards, recorded, behind, reading, Inside}
-use Rattle.book.specs.Views.{listed}
-use Rattle.book.specs.Tests.{verdict}
-use Rattle.book.proofs.Chains.{chain_is, Leads, ended_split, linked_split}
+use Rattle.book.specs.Views.{Starts, listed}
+use Rattle.book.proofs.Walks.{behind_none}
+use Rattle.book.proofs.Chains.{verdict, verdict_ok, chain_is, Leads, ended_split, linked_split}
 use Rattle.book.proofs.Grown.{entered_first, entered_some, entry_slot}
 
 -- ---- a reading by the chain
@@ -15,12 +17,9 @@ use Rattle.book.proofs.Grown.{entered_first, entered_some, entry_slot}
 pub reading_is : (book : List ℕ) → is_book book ≡ true → reading book ≡ behind book 0
 reading_is book b = rw b (ap (recorded book) (chain_is book))
 
-no_book : (book : List ℕ) → is_book book ≡ false → reading book ≡ Err (numbered 10)
-no_book book b = rw b
-
 pub recorded_split : (book : List ℕ) (c : Result (List ℕ) Refusal) (es : List Entry) → recorded book c ≡ Ok es → (slots' : List ℕ) × (c ≡ Ok slots') × (entries book slots' ≡ Ok es)
 recorded_split book (Ok slots') es h = (slots', refl, h)
-recorded_split book (Err refusal) es h = absurd (let z : ◌≡◌ {A = ℕ} 0 1 = cc in omega arith)
+recorded_split book (Err refusal) es h = cc
 
 -- a book has 1 to 2,048 slots
 pub book_slots : (book : List ℕ) → is_book book ≡ true → (1 ≤ slots book) × (slots book ≤ 2048)
@@ -48,7 +47,7 @@ chain_short : (book : List ℕ) (links slot : ℕ) (chain : List ℕ) → follow
 chain_short book zero slot chain h =
     ⊎_elim
     (λ (e : (link book slot ≡ 0) × (chain ≡ [])). short_none book zero chain e.1)
-    (λ (l : Leads book slot (Err (at 12 slot)) chain). absurd (let g = l.goes_on in let z : ◌≡◌ {A = ℕ} 0 1 = cc in omega arith))
+    (λ (l : Leads book slot (Err (at 12 slot)) chain). (cc l.goes_on))
     (ended_split book slot (Err (at 12 slot)) chain h)
 chain_short book (suc links) slot chain h =
     let next = link book slot in
@@ -64,7 +63,7 @@ chain_short book (suc links) slot chain h =
 -- the records of a chain stand in its slots
 entries_within : (book : List ℕ) (n : ℕ) (chain : List ℕ) (es : List Entry) → entries book chain ≡ Ok es → Within n chain → Inside n es × (length es ≡ length chain)
 entries_within book n [] [] h w = (tt, refl)
-entries_within book n [] (e ∷ es) h w = absurd (let z : ◌≡◌ {A = ℕ} 0 1 = cc in omega arith)
+entries_within book n [] (e ∷ es) h w = cc
 entries_within book n (s ∷ chain) [] h w = absurd (entered_some (entry_at book s) (entries book chain) h)
 entries_within book n (s ∷ chain) (e ∷ es) h w =
     let p = entered_first (entry_at book s) (entries book chain) e es h in
@@ -86,23 +85,16 @@ reading_bounds book es b h =
     let o = size.0 in
     (r.0, omega arith)
 
--- ---- a book that is not refused
+bounds_of : (book : List ℕ) (r : Result (List Entry) Refusal) → is_book book ≡ true → behind book 0 ≡ r → is_ok r ≡ true → Inside (slots book) (listed r) × (length (listed r) < 2048)
+bounds_of book (Ok es) b e h = reading_bounds book es b e
+bounds_of book (Err refusal) b e h = cc
 
-pub record Right (book : List ℕ) : Type 0 where
-  pub all : Ok (listed (behind book 0)) ≡ reading book
-  pub inside : Inside (slots book) (listed (behind book 0))
-  pub few : length (listed (behind book 0)) < 2048
-
-right : (book : List ℕ) (r : Result (List Entry) Refusal) → is_book book ≡ true → behind book 0 ≡ r → Ok tt ≡ verdict r → Right book
-right book (Ok es) b e h =
-    let bounds = reading_bounds book es b e in
-    let same : listed (behind book 0) ≡ es = ap listed e in
-    let P : List Entry → Type 0 = λ x. Inside (slots book) x × (length x < 2048) in
-    let both = subst P (sym same) bounds in
-    record { all = ap Ok same ∙ sym e ∙ sym (reading_is book b); inside = both.0; few = both.1 }
-right book (Err refusal) b e h = absurd (let z : ◌≡◌ {A = ℕ} 0 1 = cc in omega arith)
-
-pub read_right : (book : List ℕ) → Ok tt ≡ verdict (reading book) → Right book
-read_right book h =
-    ⊎_elim (λ (b : is_book book ≡ true). right book (behind book 0) b refl (h ∙ ap verdict (reading_is book b)))
-    (λ (b : is_book book ≡ false). absurd (let z : ◌≡◌ {A = ℕ} 0 1 = cc (h ∙ ap verdict (no_book book b)) in omega arith)) (cases_Bool (is_book book))
+-- the same where a look at each record came to the end of the chain
+pub bounds : (book : List ℕ) (links end : Links) → Starts book links → end.book.bytes.now ≡ book → verdict (behind book end.slot) ≡ verdict (behind book 0) → follower end.book.bytes.now end.slot ≡ None
+    → Inside (slots book) (listed (behind links.book.bytes.now links.slot)) × (length (listed (behind links.book.bytes.now links.slot)) < 2048)
+bounds book links end (l, s) e same none =
+    let P : List ℕ → ℕ → Type 0 = λ b n. Inside (slots book) (listed (behind b n)) × (length (listed (behind b n)) < 2048) in
+    let sized : is_book book ≡ true = ap is_book (sym l) ∙ links.book.sized in
+    let ended : verdict (behind book 0) ≡ Ok tt = sym same ∙ ap (λ b. verdict (behind b end.slot)) (sym e) ∙ ap verdict (behind_none end.book.bytes.now end.slot none) in
+    subst (λ (b : List ℕ). P b links.slot) (sym l)
+    (subst (λ (n : ℕ). P book n) (sym s) (bounds_of book (behind book 0) sized refl (verdict_ok (behind book 0) ended)))

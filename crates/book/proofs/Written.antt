@@ -1,5 +1,5 @@
 -- A book into which a record was put: what its slots say. Assumes nothing.
-use Rattle.std.proofs.Common.{◌≡◌, ℕ, ◌+◌, ◌-◌, ◌*◌, ◌/◌, ◌%◌, ◌^◌, ◌<◌, ◌≤◌, false, List, ◌∷◌, ◌++◌, length, get_or, take, drop, replicate, Ok, sym, refl, ap, ◌∙◌, ⊎_elim, arith, ltb-false, lt-ltb}
+use Rattle.std.proofs.Common.{◌≡◌, ℕ, ◌+◌, ◌-◌, ◌*◌, ◌/◌, ◌%◌, ◌^◌, ◌<◌, ◌≤◌, false, List, ◌∷◌, ◌++◌, length, get_or, take, drop, replicate, Ok, sym, refl, ap, ◌∙◌, ⊎_elim, arith, ltb-false}
 use native.Mathlib.Nat.{div-div-eq-div-mul}
 use lib.Seq.{paste}
 use Rattle.std.proofs.lemmas.List.{get_or_append_left, get_or-append-add, get_or-take, get_or-drop, length-take, length-drop, length-take-le, ext_get_or}
@@ -10,6 +10,7 @@ use Rattle.book.specs.Reading.{Edit, adds, cuts, puts, tags, entry_of, entry_at}
 use Rattle.book.specs.Writing.{kind_of, position_of, bits_of, lacking, overlong, half_bytes, word_bytes, slot_bytes, written}
 use Rattle.book.specs.Writing as writing
 use Rattle.book.specs.Laws.{kept}
+use Rattle.book.proofs.Slots.{data_counts}
 use Rattle.book.proofs.Pastes.{paste_below, paste_inside, paste_above}
 use Rattle.book.proofs.Laid.{length_slot, length_data}
 
@@ -23,11 +24,6 @@ part_same a b k n h l same =
     (λ i t.
     let u : i < n = omega arith in
     get_or-take n (drop k a) i 0 u ∙ get_or-drop k a i 0 ∙ same (k + i) (omega arith) (omega arith) ∙ sym (get_or-drop k b i 0) ∙ sym (get_or-take n (drop k b) i 0 u))
-
--- the data of a record that has more bits than a slot do not count
-data_counts : (slot kind position n : ℕ) (d f : List ℕ) → (n ≤ 160 → d ≡ f) → entry_of slot kind position n d ≡ entry_of slot kind position n f
-data_counts slot kind position n d f same =
-    ⊎_elim (λ (h : 160 < n). let t = lt-ltb 160 n h in rw t) (λ (h : n ≤ 160). ap (entry_of slot kind position n) (same h)) (cases_lt 160 n)
 
 -- a record with these fields is the edit as it is kept
 entry_kept : (slot : ℕ) (e : Edit) (d : List ℕ) → overlong e ≡ false → (bytes_for (bits_of e) ≡ length (writing.data_of e) → d ≡ writing.data_of e) → lacking e ≡ false

@@ -3,6 +3,7 @@ pub mod Slots
 pub mod Reading
 pub mod Writing
 pub mod Laws
+pub mod Kinds
 pub mod Edits
 pub mod Views
 pub mod Writers

@@ -1,20 +1,23 @@
 // Edit books: records of edits in slots of 32 bytes, read and written.
 #![tactic(auto)]
 
+mod book;
 mod edit;
 mod fault;
+mod fields;
+mod kind;
+mod links;
 mod reading;
 mod record;
 mod records;
 mod refusal;
 mod slot;
-mod walk;
 mod write;
 mod writer;
 
 pub use edit::Edit;
 pub use fault::BookFault;
-pub use reading::{Reading, read};
+pub use reading::read;
 pub use record::Record;
 pub use records::Records;
 pub use slot::SLOT_BYTES;
@@ -25,36 +28,18 @@ pub use writer::Writer;
 mod tests {
     use super::*;
 
-    // The slot of a record; 0 where there is none.
-    fn slot_of(next: Option<Record<'_>>) -> u16 {
-        match next {
-            None => 0,
-            Some(Record::Add { slot, .. }) => slot,
-            Some(Record::Cut { slot, .. }) => slot,
-            Some(Record::Put { slot, .. }) => slot,
-            Some(Record::Tag { slot, .. }) => slot,
-        }
-    }
-
     // Slots 0, 2, 1, 3 in chain order; then the link of slot 1 is made to lead back, and to no slot.
     #[test]
     fn chain_order(rt: HostRuntime) {
         let mut book = [0u8; 128];
         (book[1], book[65], book[33]) = (2, 1, 3);
         (book[66], book[34], book[98]) = (1, 2, 3);
-        let Reading {
-            outcome,
-            mut records,
-        } = read(&book);
-        assert_eq!(rt; outcome, Ok(()));
-        assert_eq!(rt; slot_of(records.next()), 2);
-        assert_eq!(rt; slot_of(records.next()), 1);
-        assert_eq!(rt; slot_of(records.next()), 3);
-        assert_eq!(rt; slot_of(records.next()), 0);
+        let in_order = |records: Records<'_>| records.map(|record| record.slot).eq([2, 1, 3]);
+        assert_eq!(rt; read(&book).is_ok_and(in_order), true);
         book[33] = 2;
-        assert_eq!(rt; read(&book).outcome, Err(BookFault::Ring { slot: 2 }));
+        assert_eq!(rt; read(&book).err(), Some(BookFault::Ring { slot: 2 }));
         book[33] = 4;
-        assert_eq!(rt; read(&book).outcome, Err(BookFault::Link { slot: 1 }));
+        assert_eq!(rt; read(&book).err(), Some(BookFault::Link { slot: 1 }));
     }
 
     // A put of 12 bits at 300 in a book of two slots, which is then full.

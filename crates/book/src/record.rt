@@ -1,29 +1,9 @@
 // A record of a book.
+use crate::Edit;
 
-// An edit with its slot; the data are a part of the book.
+// An edit in its slot. Its data are a part of the book: the bytes that its bits need.
 #[derive(Clone, Copy)]
-pub enum Record<'a> {
-    // Adds the first `bits` bits of the data.
-    Add {
-        slot: u16,
-        bits: u32,
-        data: &'a [u8],
-    },
-    // Cuts the last `bits` bits.
-    Cut {
-        slot: u16,
-        bits: u32,
-    },
-    // Replaces `bits` bits from `position` on.
-    Put {
-        slot: u16,
-        position: u32,
-        bits: u32,
-        data: &'a [u8],
-    },
-    // Asks for the tag's first `bits` bits; 0 is kept as written.
-    Tag {
-        slot: u16,
-        bits: u32,
-    },
+pub struct Record<'a> {
+    pub slot: u16,
+    pub edit: Edit<'a>,
 }

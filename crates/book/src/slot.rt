@@ -1,19 +1,18 @@
-// The fields of a slot, high byte first.
-ghost use Rattle.std.specs.Prelude.{◌≡◌, ◌+◌, ◌<◌, ◌≤◌, length};
-ghost use Rattle.book.specs.Slots.{half as half_at, word as word_at, slots, data_of};
-ghost use Rattle.book.specs.Reading.{entry_at};
-ghost use Rattle.book.specs.Views.{looked};
-ghost use Rattle.book.specs.Tests.{sized, follower, holds};
+// A slot of a book, and its fields, high byte first.
+ghost use Rattle.std.specs.Prelude.{◌≡◌, ◌+◌, ◌≤◌, ◌↔◌, take, drop, IsOk, IfOk, IfErr};
+ghost use Rattle.book.specs.Slots.{position as position_at, bits as bits_at, data_of};
+ghost use Rattle.book.specs.Views.{slot_entry, looked};
+ghost use Rattle.book.specs.Tests.{follower};
 
-use crate::{BookFault, Record};
+use crate::fields::needed;
+use crate::kind::Kind;
+use crate::{BookFault, Edit, Record};
 
 pub const SLOT_BYTES: usize = 32;
 
-const MOST_SLOTS: usize = 2048;
+// Where a slot's fields begin.
+const LINK: usize = 0;
 
-const MOST_BITS: u32 = 160;
-
-// Where a slot's fields begin; its link is at 0.
 pub(crate) const KIND: usize = 2;
 
 pub(crate) const POSITION: usize = 4;
@@ -22,99 +21,81 @@ pub(crate) const LENGTH: usize = 8;
 
 pub(crate) const DATA: usize = 12;
 
-// The kinds of records.
-pub(crate) const ADD: u8 = 1;
+pub(crate) const DATA_BYTES: usize = SLOT_BYTES - DATA;
 
-pub(crate) const CUT: u8 = 2;
-
-pub(crate) const PUT: u8 = 3;
-
-pub(crate) const TAG: u8 = 4;
-
-// Two bytes from `i` on.
-fn half(book: &[u8], i: usize) -> u16
-    requires { i + 2 ≤ length book.now }
-    ensures { result ≡ half_at book.now i }
-{
-    u16::from_be_bytes([book[i], book[i + 1]])
+// A slot of a book, by its number.
+#[derive(Clone, Copy)]
+pub(crate) struct Slot<'a> {
+    pub(crate) number: u16,
+    pub(crate) bytes: &'a [u8; SLOT_BYTES],
 }
 
-// Four bytes from `i` on.
-fn word(book: &[u8], i: usize) -> u32
-    requires { i + 4 ≤ length book.now }
-    ensures { result ≡ word_at book.now i }
-{
-    u32::from_be_bytes([book[i], book[i + 1], book[i + 2], book[i + 3]])
-}
-
-// How many slots a book has; refused where the bytes are no book.
-pub(crate) fn slot_count(book: &[u8]) -> Result<u16, BookFault>
-    ensures { result ≡ sized book.now }
-{
-    let slots = book.len() / SLOT_BYTES;
-    if book.len() % SLOT_BYTES != 0 || slots < 1 || slots > MOST_SLOTS {
-        return Err(BookFault::Size);
+impl<'a> Slot<'a> {
+    // The bytes of a field that begins at `start`.
+    fn field<const N: usize>(self, start: usize) -> [u8; N]
+        requires { start + N ≤ 32 }
+        ensures { result ≡ take N (drop start self.entry.bytes.now) }
+    {
+        let bytes = self.bytes;
+        let mut field = [0; N];
+        field.copy_from_slice(&bytes[start..start + N]);
+        field
     }
-    Ok(slots as u16)
-}
 
-// The slot that a slot's link leads to, unless it ends the chain.
-pub(crate) fn next_slot(book: &[u8], slot: u16) -> Option<u16>
-    requires { slot < slots book.now }
-    ensures { result ≡ follower book.now slot }
-{
-    match half(book, slot as usize * SLOT_BYTES) {
-        0 => None,
-        next => Some(next),
-    }
-}
-
-// Refused where a slot does not hold so many data bits.
-pub(crate) fn hold(slot: u16, bits: u32) -> Result<(), BookFault>
-    ensures { result ≡ holds slot bits }
-{
-    if bits > MOST_BITS {
-        return Err(BookFault::Long { slot });
-    }
-    Ok(())
-}
-
-// The data of a slot: the whole bytes that so many bits need.
-fn data_of(book: &[u8], slot: u16, bits: u32) -> &[u8]
-    requires inside { slot < slots book.now }
-    requires short { bits ≤ 160 }
-    ensures { result.now ≡ data_of book.now slot bits }
-{
-    let start = slot as usize * SLOT_BYTES + DATA;
-    &book[start..start + bits.div_ceil(8) as usize]
-}
-
-// The record that a slot holds: refused for its kind, then for its length.
-pub(crate) fn look(book: &[u8], slot: u16) -> Result<Record<'_>, BookFault>
-    requires { slot < slots book.now }
-    ensures { looked result ≡ entry_at book.now slot }
-{
-    let base = slot as usize * SLOT_BYTES;
-    let bits = word(book, base + LENGTH);
-    match book[base + KIND] {
-        ADD => {
-            hold(slot, bits)?;
-            let data = data_of(book, slot, bits);
-            Ok(Record::Add { slot, bits, data })
+    // The slot that the link leads to, unless it ends the chain.
+    pub(crate) fn link(self) -> Option<u16>
+        ensures { result ≡ follower self.entry.bytes.now 0 }
+    {
+        match u16::from_be_bytes(self.field(LINK)) {
+            0 => None,
+            next => Some(next),
         }
-        CUT => Ok(Record::Cut { slot, bits }),
-        PUT => {
-            hold(slot, bits)?;
-            let position = word(book, base + POSITION);
-            let data = data_of(book, slot, bits);
-            Ok(Record::Put {
-                slot,
-                position,
+    }
+
+    fn position(self) -> u32
+        ensures { result ≡ position_at self.entry.bytes.now 0 }
+    {
+        u32::from_be_bytes(self.field(POSITION))
+    }
+
+    fn bits(self) -> u32
+        ensures { result ≡ bits_at self.entry.bytes.now 0 }
+    {
+        u32::from_be_bytes(self.field(LENGTH))
+    }
+
+    // The whole bytes that so many bits need; refused where the slot does not hold them.
+    fn data(self, bits: u32) -> Result<&'a [u8], BookFault>
+        ensures holds { IsOk result ↔ (bits ≤ 160) }
+        ensures part { IfOk result (λ part. part.now ≡ data_of self.entry.bytes.now 0 bits) }
+        ensures long { IfErr result (λ fault. fault ≡ BookFault.Long self.entry.number) }
+    {
+        let bytes = self.bytes;
+        needed(bits, &bytes[DATA..]).ok_or(BookFault::Long { slot: self.number })
+    }
+
+    // The record that the slot holds: refused for its kind, then for its length.
+    pub(crate) fn record(self) -> Result<Record<'a>, BookFault>
+        ensures { looked result ≡ slot_entry self.entry }
+    {
+        let slot = self.number;
+        let Ok(kind) = Kind::try_from(self.bytes[KIND]) else {
+            return Err(BookFault::Kind { slot });
+        };
+        let bits = self.bits();
+        let edit = match kind {
+            Kind::Add => Edit::Add {
                 bits,
-                data,
-            })
-        }
-        TAG => Ok(Record::Tag { slot, bits }),
-        _ => Err(BookFault::Kind { slot }),
+                data: self.data(bits)?,
+            },
+            Kind::Cut => Edit::Cut { bits },
+            Kind::Put => Edit::Put {
+                position: self.position(),
+                bits,
+                data: self.data(bits)?,
+            },
+            Kind::Tag => Edit::Tag { bits },
+        };
+        Ok(Record { slot, edit })
     }
 }
