@@ -1,8 +1,7 @@
 -- The two maps of an AES engine on blocks, and what the engine of a key is. Assumes nothing.
 use Rattle.std.specs.Prelude.{ℕ, ◌*◌, cond, List, [], length, Ok, Err, Result, ◌==◌}
 use Rattle.block.specs.Arith.{from_bytes, to_bytes}
-use Rattle.block.specs.Blocks.{arith128}
-use Rattle.block.specs.Blocks.{Block128}
+use Rattle.block.specs.Blocks.{Block128, arith128}
 use Rattle.engine.specs.Meaning.{Meaning}
 use Rattle.engine.specs.Refusals.{Refusal}
 use Rattle.aes.specs.State.{State, state, bytes_in}

@@ -1,7 +1,6 @@
 -- XTEA with 32 cycles on blocks of 64 bits, under a key of 16 bytes. Assumes nothing.
 use Rattle.std.specs.Prelude.{◌≡◌, ℕ, ◌+◌, ◌*◌, ◌/◌, ◌%◌, ◌^◌, cond, List, [], ◌∷◌, length, Ok, Err, Result, ◌==◌, slice_index}
-use Rattle.block.specs.Blocks.{make64}
-use Rattle.block.specs.Blocks.{Block64}
+use Rattle.block.specs.Blocks.{Block64, make64}
 use Rattle.engine.specs.Meaning.{Meaning}
 use Rattle.engine.specs.Refusals.{Refusal, key_refusal}
 use Rattle.engine.specs.declared.fault.KeyFault.{KeyFault}
