@@ -2,9 +2,8 @@
 use Rattle.std.specs.Prelude.{◌≡◌, ℕ, zero, suc, ◌<◌, List, [], ◌∷◌, map, slice_index, refl}
 use Rattle.std.proofs.Common.{sym, ap, subst, ◌∙◌, arith}
 use Rattle.block.specs.Arith.{from_bytes, to_bytes}
-use Rattle.block.specs.Blocks.{make128, arith128}
+use Rattle.block.specs.Blocks.{Block128, make128, arith128}
 use Rattle.block.specs.Width.{value_of, digits}
-use Rattle.block.specs.Blocks.{Block128}
 use Rattle.block.proofs.Numbers.{value_bits, bytes_bits}
 use Rattle.block.specs.Laws.{bytes_read_back}
 use Rattle.block.specs.Same.{laws128}

@@ -2,8 +2,7 @@
 use Rattle.std.proofs.Common.{◌≡◌, ℕ, Bool, ltb, List, [], ◌∷◌, take, sym, refl, ap, ◌∙◌, subst, arith, take_all}
 use Rattle.std.proofs.lemmas.Bool.{cond_both}
 use Rattle.block.specs.Arith.{Arith, from_bytes, to_bytes}
-use Rattle.block.specs.Blocks.{arith128}
-use Rattle.block.specs.Blocks.{Block128}
+use Rattle.block.specs.Blocks.{Block128, arith128}
 use Rattle.block.specs.BitsLemmas.{length_bytes_of}
 use Rattle.block.specs.Laws.{bytes_read_back}
 use Rattle.block.specs.Same.{laws128}

@@ -1,8 +1,7 @@
 -- What a series of calls on one overlay keeps, and the tag behind it. Assumes nothing.
 use Rattle.std.specs.Prelude.{ℕ, List, Ok, Err, Result}
 use Rattle.block.specs.Arith.{Arith}
-use Rattle.block.specs.Blocks.{arith128}
-use Rattle.block.specs.Blocks.{Block128}
+use Rattle.block.specs.Blocks.{Block128, arith128}
 use Rattle.bits.specs.Memory.{standing}
 use Rattle.engine.specs.Meaning.{Meaning}
 use Rattle.engine.specs.Refusals.{Refusal}

@@ -1,7 +1,6 @@
 -- The complement engine's map. Assumes nothing.
 use Rattle.std.specs.Prelude.{ℕ}
-use Rattle.block.specs.Blocks.{make64, arith64}
-use Rattle.block.specs.Blocks.{Block64}
+use Rattle.block.specs.Blocks.{Block64, make64, arith64}
 use Rattle.engine.specs.Meaning.{Maps, Meaning, metered}
 
 -- every bit flipped
