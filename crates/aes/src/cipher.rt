@@ -25,15 +25,14 @@ impl RoundKeys {
     pub(crate) fn encipher(&self, block: Block128) -> Block128
         ensures { result ≡ on_block (cipher (keys_in self.now)) block }
     {
-        let x = Words::split(block.value());
-        Block128::new(through::<Forth>(&self.forth, x).join())
+        through::<Forth>(&self.forth, block.into()).into()
     }
 
     // The way back is a way forth over mirrored columns, since their rows shift in the other direction.
     pub(crate) fn decipher(&self, block: Block128) -> Block128
         ensures { result ≡ on_block (inv_cipher (keys_in self.now)) block }
     {
-        let x = Words::split(block.value()).mirrored();
-        Block128::new(through::<Back>(&self.back, x).mirrored().join())
+        let x = Words::from(block).mirrored();
+        through::<Back>(&self.back, x).mirrored().into()
     }
 }
