@@ -44,6 +44,7 @@ fn whole_rounds<W: Way>(keys: &[Words], mut x: Words) -> Words
 }
 
 // All rounds of a way, under its keys.
+#[tactic(auto, unfolding(crate::specs::Ways::through))]
 pub(crate) fn through<W: Way>(keys: &WayKeys, x: Words) -> Words
     ensures { state_of result ≡ through W.steps (keys_of keys.now) (state_of x) }
 {

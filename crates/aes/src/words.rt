@@ -78,6 +78,7 @@ impl From<Words> for Block128 {
 
 impl Words {
     // Column 0 stays, and the others stand the other way round.
+    #[tactic(auto, unfolding(crate::specs::Words::state_of))]
     pub(crate) fn mirrored(self) -> Self
         ensures { state_of result ≡ mirror (state_of self) }
     {
@@ -89,6 +90,7 @@ impl Words {
     }
 
     // The state after InvMixColumns.
+    #[tactic(auto, unfolding(crate::specs::Words::state_of, crate::specs::Cipher::inv_mix_columns))]
     pub(crate) fn unmixed(self) -> Self
         ensures { state_of result ≡ inv_mix_columns (state_of self) }
     {
