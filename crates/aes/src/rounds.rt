@@ -22,6 +22,7 @@ fn whole_round<W: Way>(x: Words, k: &Words) -> Words
 }
 
 // The last round mixes no columns.
+#[tactic(auto, unfolding(crate::specs::Ways::last_round, crate::specs::Words::state_of))]
 fn last_round<W: Way>(x: Words, k: &Words) -> Words
     ensures { state_of result ≡ last_round W.steps (state_of x) (state_of k.now) }
 {

@@ -26,6 +26,7 @@ impl BitXor for Words {
 
     ghost bitxor_gives = { λ x k r. state_of r ≡ add_round_key (state_of x) (state_of k) };
 
+    #[tactic(auto, using(crate::specs::Pack::unpacked_xor), unfolding(crate::specs::Words::state_of))]
     fn bitxor(self, key: Self) -> Self {
         Words {
             c0: self.c0 ^ key.c0,
