@@ -10,6 +10,7 @@ use crate::words::Words;
 
 // The columns stand in falling order, and in each the key first: so the compiled round waits least for its table
 // (docs/BENCHMARKS.md).
+#[tactic(auto, using(crate::specs::Pack::key_first), unfolding(crate::specs::Ways::round, crate::specs::Words::state_of))]
 fn whole_round<W: Way>(x: Words, k: &Words) -> Words
     ensures { state_of result ≡ round W.steps (state_of x) (state_of k.now) }
 {
