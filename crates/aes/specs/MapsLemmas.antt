@@ -47,12 +47,13 @@ block_fit : (x : Block128) → Fit (state (to_bytes arith128 x))
 block_fit x = subst Fit (ap state (sym (from_number x))) (digits_fit x.value)
 
 -- what the code works out is the map
-pub on_block_lem : (f : State → State) → ((y : State) → Fit y → Fit (f y)) → (x r : Block128) (v : ℕ)
-    → r ≡ make128 v → v ≡ value_of 16 (bytes_in (f (state (digits 16 x.value)))) → r ≡ on_block f x
+pub on_block_lem : (f : State → State) → ((y : State) → Fit y → Fit (f y)) → (x r : Block128) (y : State)
+    → r ≡ make128 (value_of 16 (bytes_in y)) → y ≡ f (state (digits 16 x.value)) → r ≡ on_block f x
 unfolding on_block
-on_block_lem f fits x r v er ev =
-    let y = state (digits 16 x.value) in
-    er ∙ ap make128 ev ∙ sym (to_number (f y) (fits y (digits_fit x.value))) ∙ ap (λ l. from_bytes arith128 (bytes_in (f (state l)))) (sym (from_number x))
+on_block_lem f fits x r y er ey =
+    let z = state (digits 16 x.value) in
+    er ∙ ap (λ s. make128 (value_of 16 (bytes_in s))) ey ∙ sym (to_number (f z) (fits z (digits_fit x.value)))
+    ∙ ap (λ l. from_bytes arith128 (bytes_in (f (state l)))) (sym (from_number x))
 
 -- ---- undone
 
@@ -80,8 +81,8 @@ undoes w left h = record {
   enc_dec = undone (cipher w) (inv_cipher w) (λ y. inv_cipher_fit w y h) (λ y. rounds_undo.cipher_of_inv w y h);
 }
 
-pub enciphered : (k : RoundKeys) (x r : Block128) (v : ℕ) → r ≡ make128 v → v ≡ value_of 16 (bytes_in (cipher (keys_in k) (state (digits 16 x.value)))) → r ≡ on_block (cipher (keys_in k)) x
+pub enciphered : (k : RoundKeys) (x r : Block128) (y : State) → r ≡ make128 (value_of 16 (bytes_in y)) → y ≡ cipher (keys_in k) (state (digits 16 x.value)) → r ≡ on_block (cipher (keys_in k)) x
 enciphered k = on_block_lem (cipher (keys_in k)) (λ y. cipher_fit (keys_in k) y (keys_fit k))
 
-pub deciphered : (k : RoundKeys) (x r : Block128) (v : ℕ) → r ≡ make128 v → v ≡ value_of 16 (bytes_in (inv_cipher (keys_in k) (state (digits 16 x.value)))) → r ≡ on_block (inv_cipher (keys_in k)) x
+pub deciphered : (k : RoundKeys) (x r : Block128) (y : State) → r ≡ make128 (value_of 16 (bytes_in y)) → y ≡ inv_cipher (keys_in k) (state (digits 16 x.value)) → r ≡ on_block (inv_cipher (keys_in k)) x
 deciphered k = on_block_lem (inv_cipher (keys_in k)) (λ y. inv_cipher_fit (keys_in k) y (keys_fit k))

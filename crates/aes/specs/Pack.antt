@@ -8,7 +8,7 @@ use Rattle.block.specs.Width.{value_of, digits}
 use Rattle.block.specs.WidthLemmas.{xors}
 use Rattle.aes.specs.Field.{times}
 use Rattle.aes.specs.State.{Column, column, columns, each, state, bytes_in, Bytes, Fit}
-use Rattle.aes.specs.Cipher.{plus, add_round_key}
+use Rattle.aes.specs.Cipher.{plus}
 use Rattle.aes.specs.Ways.{Steps, mixing}
 use Rattle.aes.specs.Words.{packed, unpacked, state_of, brought0, brought1}
 use Rattle.aes.specs.declared.words.Words.{Words}
@@ -63,16 +63,12 @@ unpacked_xor u v =
     λ k. ap (λ (z : ℕ). z % 256) (xor_shr u v k) ∙ xor_mod (u / 2 ^ k) (v / 2 ^ k) 8 in
     λ i. column (at 24 i) (at 16 i) (at 8 i) (xor_mod u v 8 i)
 
--- a column, and the key's
-pub with_key : (f : Column → Column) (r k : ℕ) (j l : Column) → unpacked r ≡ f j → j ≡ l → unpacked (bit_xor k r) ≡ plus (f l) (unpacked k)
-with_key f r k j l er ej = ap unpacked (xor_comm k r) ∙ unpacked_xor r k ∙ ap (λ z. plus z (unpacked k)) (er ∙ ap f ej)
+-- the key first
+pub key_first : (k w : ℕ) → unpacked (bit_xor k w) ≡ plus (unpacked w) (unpacked k)
+key_first k w = ap unpacked (xor_comm k w) ∙ unpacked_xor w k
 
 abbrev pub four : ℕ → ℕ → ℕ → ℕ → Words
 four j k l m = record { c0 = j; c1 = k; c2 = l; c3 = m }
-
-pub xor_state : (x k : Words) → state_of (four (bit_xor x.c0 k.c0) (bit_xor x.c1 k.c1) (bit_xor x.c2 k.c2) (bit_xor x.c3 k.c3)) ≡ add_round_key (state_of x) (state_of k)
-unfolding state_of
-xor_state x k = λ i. columns (unpacked_xor x.c0 k.c0 i) (unpacked_xor x.c1 k.c1 i) (unpacked_xor x.c2 k.c2 i) (unpacked_xor x.c3 k.c3 i)
 
 -- ---- a state and the number of its bytes
 

@@ -32,13 +32,12 @@ impl Cipher for RoundKeys {
     ghost undoes = { λ k left. MapsLemmas.undoes (keys_in k) left (MapsLemmas.keys_fit k) };
 
     fn encipher(&self, block: Block128) -> Block128 {
-        let x = Words::split(block.value());
-        Block128::new(through::<Forth>(&self.forth, x).join())
+        through::<Forth>(&self.forth, block.into()).into()
     }
 
     // The way back is a way forth over mirrored columns, since their rows shift in the other direction.
     fn decipher(&self, block: Block128) -> Block128 {
-        let x = Words::split(block.value()).mirrored();
-        Block128::new(through::<Back>(&self.back, x).mirrored().join())
+        let x = Words::from(block).mirrored();
+        through::<Back>(&self.back, x).mirrored().into()
     }
 }

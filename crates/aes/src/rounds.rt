@@ -10,6 +10,7 @@ use crate::words::Words;
 
 // The columns stand in falling order, and in each the key first: so the compiled round waits least for its table
 // (docs/BENCHMARKS.md).
+#[tactic(auto, using(crate::specs::Pack::key_first), unfolding(crate::specs::Ways::round, crate::specs::Words::state_of))]
 fn whole_round<W: Way>(x: Words, k: &Words) -> Words
     ensures { state_of result ≡ round W.steps (state_of x) (state_of k.now) }
 {
@@ -22,6 +23,7 @@ fn whole_round<W: Way>(x: Words, k: &Words) -> Words
 }
 
 // The last round mixes no columns.
+#[tactic(auto, unfolding(crate::specs::Ways::last_round, crate::specs::Words::state_of))]
 fn last_round<W: Way>(x: Words, k: &Words) -> Words
     ensures { state_of result ≡ last_round W.steps (state_of x) (state_of k.now) }
 {
@@ -44,6 +46,7 @@ fn whole_rounds<W: Way>(keys: &[Words], mut x: Words) -> Words
 }
 
 // All rounds of a way, under its keys.
+#[tactic(auto, unfolding(crate::specs::Ways::through))]
 pub(crate) fn through<W: Way>(keys: &WayKeys, x: Words) -> Words
     ensures { state_of result ≡ through W.steps (keys_of keys.now) (state_of x) }
 {

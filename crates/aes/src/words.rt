@@ -1,6 +1,7 @@
 // A state as four words, one for each column, row 0 highest.
 ghost use Rattle.std.specs.Prelude.{◌≡◌};
 ghost use Rattle.block.specs.Width.{value_of, digits};
+ghost use Rattle.block.specs.Blocks.{make128};
 ghost use Rattle.aes.specs.State.{state, bytes_in};
 ghost use Rattle.aes.specs.Cipher.{add_round_key, inv_mix_column, inv_mix_columns};
 ghost use Rattle.aes.specs.Ways.{mirror};
@@ -8,6 +9,7 @@ ghost use Rattle.aes.specs.Words.{unpacked, state_of};
 
 use crate::columns::{mixed, substituted};
 use crate::way::{Back, Forth};
+use block::Block128;
 use std::ops::BitXor;
 
 #[derive(Clone, Copy)]
@@ -24,6 +26,7 @@ impl BitXor for Words {
 
     ghost bitxor_gives = { λ x k r. state_of r ≡ add_round_key (state_of x) (state_of k) };
 
+    #[tactic(auto, using(crate::specs::Pack::unpacked_xor), unfolding(crate::specs::Words::state_of))]
     fn bitxor(self, key: Self) -> Self {
         Words {
             c0: self.c0 ^ key.c0,
@@ -45,12 +48,12 @@ fn unmixed_column(w: u32) -> u32
     mixed::<Back>(s.to_be_bytes())
 }
 
-impl Words {
-    // The state that the sixteen bytes of a number fill, high byte first. By shifts: by way of `to_be_bytes` a block
-    // takes six hundredths longer.
-    pub(crate) fn split(x: u128) -> Self
-        ensures { state_of result ≡ state (digits 16 x) }
-    {
+// The state that a block's bytes fill. By shifts: by way of `to_be_bytes` a block takes six hundredths longer.
+impl From<Block128> for Words {
+    ghost from_gives = { λ x r. state_of r ≡ state (digits 16 x.value) };
+
+    fn from(block: Block128) -> Self {
+        let x = block.value();
         Words {
             c0: (x >> 96) as u32,
             c1: ((x >> 64) % OVER) as u32,
@@ -58,18 +61,25 @@ impl Words {
             c3: (x % OVER) as u32,
         }
     }
+}
 
-    // The number whose bytes are the state's. By shifts too: the sixteen bytes would each need a name.
-    pub(crate) fn join(self) -> u128
-        ensures { result ≡ value_of 16 (bytes_in (state_of self)) }
-    {
-        (u128::from(self.c0) << 96)
-            + (u128::from(self.c1) << 64)
-            + (u128::from(self.c2) << 32)
-            + u128::from(self.c3)
+// The block whose bytes are the state's. By shifts too, since each of the sixteen bytes would need a name.
+impl From<Words> for Block128 {
+    ghost from_gives = { λ x r. r ≡ make128 (value_of 16 (bytes_in (state_of x))) };
+
+    fn from(x: Words) -> Self {
+        Block128::new(
+            (u128::from(x.c0) << 96)
+                + (u128::from(x.c1) << 64)
+                + (u128::from(x.c2) << 32)
+                + u128::from(x.c3),
+        )
     }
+}
 
+impl Words {
     // Column 0 stays, and the others stand the other way round.
+    #[tactic(auto, unfolding(crate::specs::Words::state_of))]
     pub(crate) fn mirrored(self) -> Self
         ensures { state_of result ≡ mirror (state_of self) }
     {
@@ -81,6 +91,7 @@ impl Words {
     }
 
     // The state after InvMixColumns.
+    #[tactic(auto, unfolding(crate::specs::Words::state_of, crate::specs::Cipher::inv_mix_columns))]
     pub(crate) fn unmixed(self) -> Self
         ensures { state_of result ≡ inv_mix_columns (state_of self) }
     {
