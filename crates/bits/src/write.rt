@@ -7,6 +7,7 @@ ghost use Rattle.bits.specs.Memory.{written, replaced};
 use block::Block;
 
 // Writes the first `count` bits of `edit` at bit `position` of the memory; every other bit stays.
+// An edit may be longer than the largest memory, so it comes as bytes and a count and not as `Bits`.
 pub fn write_bits(memory: &mut [u8], position: usize, edit: &[u8], count: usize)
     requires room { position + count ≤ 8 * length memory.old }
     requires given { count ≤ 8 * length edit.now }
