@@ -2,7 +2,7 @@ use Rattle.std.proofs.Common.{◌≤◌, length, sym, ap, ◌∙◌, arith}
 use Rattle.overlay.specs.Refusals.{overlay_refusal}
 use Rattle.overlay.specs.Views.{started}
 use Rattle.report.proofs.Sealing.{open_stops}
-use Rattle.report.proofs.seal.sealed.Goals as goal
+use Rattle.report.proofs.seal.make_calls.Goals as goal
 
 pub returns-in-Err : goal.returns-in-Err
 returns-in-Err g c =
