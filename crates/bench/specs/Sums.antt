@@ -38,20 +38,7 @@ IsWay {E} {B} means w calls way = (engine : MutBor E) (block : B) (result : Resu
 abbrev pub folded : Block128 → ℕ
 folded x = bit_xor (x.value / 2 ^ 64) (x.value % 2 ^ 64)
 
--- what an engine's enciphering or deciphering of a memory adds up to
-abbrev pub enciphering : Result (Meaning Block128) Refusal → List ℕ → ℕ
-enciphering (Ok m) memory = folded (total arith128 m.enc memory)
-enciphering (Err r) memory = 0
-
-abbrev pub deciphering : Result (Meaning Block128) Refusal → List ℕ → ℕ
-deciphering (Ok m) memory = folded (total arith128 m.dec memory)
-deciphering (Err r) memory = 0
-
--- the full tag of a whole memory, if it is not refused
-abbrev pub tag_of : {B : Type 0} → Outcome B → Option B
-tag_of (worked tag n) = Some tag
-tag_of (refused r) = None
-
+-- 0 where there is none
 abbrev pub folded128 : Option Block128 → ℕ
 folded128 (Some x) = folded x
 folded128 None = 0
@@ -59,6 +46,18 @@ folded128 None = 0
 abbrev pub folded64 : Option Block64 → ℕ
 folded64 (Some x) = x.value
 folded64 None = 0
+
+-- what an engine's enciphering or deciphering of a memory adds up to
+abbrev pub enciphering : Result (Meaning Block128) Refusal → List ℕ → ℕ
+enciphering made memory = folded128 (total_under arith128 (λ m. m.enc) made memory)
+
+abbrev pub deciphering : Result (Meaning Block128) Refusal → List ℕ → ℕ
+deciphering made memory = folded128 (total_under arith128 (λ m. m.dec) made memory)
+
+-- the full tag of a whole memory, if it is not refused
+abbrev pub tag_of : {B : Type 0} → Outcome B → Option B
+tag_of (worked tag n) = Some tag
+tag_of (refused r) = None
 
 -- the full tag of a whole memory under what came of a key; none where either is refused
 abbrev pub tag_under : {B : Type 0} → Arith B → Result (Meaning B) Refusal → List ℕ → Option B

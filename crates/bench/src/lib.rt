@@ -23,24 +23,24 @@ use xtea::Xtea;
 pub fn bench_aes128_encipher(key: &[u8], memory: &[u8]) -> Option<u64>
     ensures { IfSome result (λ sum. sum ≡ enciphering (aes 4 key.now 4294967295) memory.now) }
 {
-    sum_under(
+    let sum = sum_under(
         key,
         memory,
         |engine: &mut Aes128, block| engine.encipher(block),
-    )
-    .map(fold)
+    )?;
+    Some(fold(sum))
 }
 
 // The same, deciphered.
 pub fn bench_aes128_decipher(key: &[u8], memory: &[u8]) -> Option<u64>
     ensures { IfSome result (λ sum. sum ≡ deciphering (aes 4 key.now 4294967295) memory.now) }
 {
-    sum_under(
+    let sum = sum_under(
         key,
         memory,
         |engine: &mut Aes128, block| engine.decipher(block),
-    )
-    .map(fold)
+    )?;
+    Some(fold(sum))
 }
 
 // The full tag of `memory` under AES-128; none where that is refused.
@@ -85,7 +85,9 @@ fn sum_under<C: Keyed + Drop, W: Fn(&mut C, C::Block) -> Result<C::Block, Engine
     requires { W.IsAlwaysCallable way }
     ensures { (f : Meaning C.Block → C.Block → C.Block) → IsWay C.Engine.means f W.Fn way → IfSome result (λ sum. Some sum ≡ total_under C.Block.Block.arith f (C.made key.now 4294967295) memory.now) }
 {
-    let mut engine = C::new(key, u32::MAX).ok()?;
+    let Ok(mut engine) = C::new(key, u32::MAX) else {
+        return None;
+    };
     sums::sum_of(&mut engine, memory, way).ok()
 }
 
