@@ -16,8 +16,7 @@ use Rattle.overlay.specs.declared.fault.OverlayFault.{OverlayFault}
 use Rattle.overlay.specs.Refusals.{Outcome, carried, refused, overlay_refusal}
 use Rattle.overlay.specs.Calls.{State, World, After, Start, begun, back, begin, sent, afforded, judged, add, add_tests, add_done, tag, tag_tests, tag_done, taggable}
 use Rattle.overlay.specs.Laws.{Stands, then, Adds, Tags}
-use Rattle.report.specs.Seal.{seal_line, seal_of}
-use Rattle.report.specs.Calls.{tagged, stopped, came, ended, Handed, came_line, sealing}
+use Rattle.report.specs.Calls.{tagged, stopped, came, ended, Handed, sealing}
 
 -- refusal 8, with what it tells
 abbrev short : ℕ → ℕ → Refusal
@@ -183,18 +182,3 @@ module _ {B : Type 0} {A : Arith B} (w : arithmetic.Laws A) where
               tags.tag_is (take all (bits_of message)) stands ∙ ap (λ x. then x (take (length buffer) (to_bytes A (full A a.world.state.engine.enc (take all (bits_of message))))) buffer) oz
               ∙ ap (λ f. take (length buffer) (to_bytes A (full A f (take all (bits_of message))))) enc ∙ take_all (length buffer) bytes (omega arith) in
               ap (λ x. ended x (a.slip + z.slip) z.world.buffer) oz ∙ ap (λ n. tagged z.world.buffer n) sum ∙ ap (λ x. tagged x (blocks A all)) got ∙ sealing_goes v.state.engine message _ high
-
-  -- the line
-  pub line_is : (m : Meaning B) (message : List ℕ) → length message ≤ 65536
-      → came_line A (8 * length message) (sealing A m message (blocks A (8 * length message) + 1)) ≡ seal_of A m message
-  line_is m message small = by (cases_lt m.left (blocks A (8 * length message) + 1))
-    where
-      fit : unfit message (8 * length message) ≡ false
-      fit = fits message (8 * length message) small (omega arith)
-
-      by : (m.left < blocks A (8 * length message) + 1) ⊎ (blocks A (8 * length message) + 1 ≤ m.left)
-          → came_line A (8 * length message) (sealing A m message (blocks A (8 * length message) + 1)) ≡ seal_of A m message
-      by (inl h) =
-          ap (came_line A (8 * length message)) (sym (sealing_stops m message _ h)) ∙ sym (ap (seal_line A (8 * length message)) (cond-false _ _ _ fit ∙ cond-true _ _ _ (lt-ltb _ _ h)))
-      by (inr h) =
-          ap (came_line A (8 * length message)) (sym (sealing_goes m message _ h)) ∙ sym (ap (seal_line A (8 * length message)) (cond-false _ _ _ fit ∙ cond-false _ _ _ (le-ltb _ _ h)))

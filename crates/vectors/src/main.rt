@@ -13,12 +13,10 @@ use tally::Report;
 fn main(rt: HostRuntime) -> anyhow::Result<()> {
     let alloc = rt.alloc();
     let mut report = Report::new(alloc)?;
-    let mut number: u32 = 0;
-    for line in BufReader::new(alloc, rt.stdin())?.lines(alloc) {
+    for (i, line) in BufReader::new(alloc, rt.stdin())?.lines(alloc).enumerate() {
         let line = line?;
-        number = number.saturating_add(1);
         match Row::read(line.as_str()) {
-            Some(row) => report.note(&row, number, row.matches(alloc)?)?,
+            Some(row) => report.note(&row, i.saturating_add(1), row.matches(alloc)?)?,
             None if line.as_str().starts_with('#') => {}
             None => report.skip(),
         }

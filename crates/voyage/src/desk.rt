@@ -1,7 +1,7 @@
 // The overlay of one voyage, with its memory, the accounts and the slips that its calls gave.
 ghost use Rattle.std.specs.Prelude.{◌≡◌};
 
-use crate::command::Command;
+use crate::command::{Command, Edit};
 use crate::shown::{Call, Shown};
 use aes::Aes128;
 use engine::Engine;
@@ -39,29 +39,43 @@ impl Desk {
         command: Command<'_>,
     ) -> Result<Option<Shown>, AllocError> {
         match command {
-            Command::Add(edit) => {
-                let Some(bytes) = edit.bytes(alloc)? else {
-                    return Ok(None);
-                };
-                let count = edit.count(&bytes);
-                let answer = self.overlay.add(&mut self.memory, &bytes, count);
-                Ok(Some(Shown::Call(self.note("add", answer))))
-            }
+            Command::Add(edit) => self.edit(
+                alloc,
+                "add",
+                edit,
+                |overlay, memory, bytes, count| overlay.add(memory, bytes, count),
+            ),
             Command::Cut { bits } => {
                 let answer = self.overlay.cut(&self.memory, bits);
                 Ok(Some(Shown::Call(self.note("cut", answer))))
             }
-            Command::Put { position, edit } => {
-                let Some(bytes) = edit.bytes(alloc)? else {
-                    return Ok(None);
-                };
-                let count = edit.count(&bytes);
-                let answer = self.overlay.put(&mut self.memory, position, &bytes, count);
-                Ok(Some(Shown::Call(self.note("put", answer))))
-            }
+            Command::Put { position, edit } => self.edit(
+                alloc,
+                "put",
+                edit,
+                |overlay, memory, bytes, count| overlay.put(memory, position, bytes, count),
+            ),
             Command::Tag { bits } => Ok(Some(Shown::Call(self.tag(alloc, bits)?))),
             Command::Book { slip, account } => Ok(self.book(slip, account)),
         }
+    }
+
+    // Runs a call that writes bits, if the hex spells any.
+    fn edit<F: FnOnce(&mut Open<Aes128>, &mut [u8], &[u8], u32) -> Answer + Drop>(
+        &mut self,
+        alloc: Global,
+        name: &'static str,
+        edit: Edit<'_>,
+        call: F,
+    ) -> Result<Option<Shown>, AllocError>
+        requires { F.IsAlwaysCallable call }
+    {
+        let Some(bytes) = edit.bytes(alloc)? else {
+            return Ok(None);
+        };
+        let count = edit.count(&bytes);
+        let answer = call(&mut self.overlay, &mut self.memory, &bytes, count);
+        Ok(Some(Shown::Call(self.note(name, answer))))
     }
 
     // A length that is no whole number of bytes is asked for as none, and refused.
@@ -130,6 +144,7 @@ impl Desk {
             mut ledger,
             mut slips,
         } = self;
+        // No `for` here: one that stopped would have to let the other slips go, and a slip goes only once it is booked.
         while let Some(slip) = slips.pop() {
             settle(&mut ledger, slip);
         }
