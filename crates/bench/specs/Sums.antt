@@ -1,8 +1,11 @@
 -- Sums of blocks after a map. Assumes nothing.
-use Rattle.std.specs.Prelude.{ℕ, zero, suc, ◌*◌, ◌/◌, ◌%◌, ◌^◌, List, length, take, drop, Some, None, Ok, Err, Option, Result, bit_xor}
+use Rattle.std.specs.Prelude.{◌≡◌, ℕ, zero, suc, ◌*◌, ◌/◌, ◌%◌, ◌^◌, List, length, take, drop, Some, None, Ok, Err, Option, Result, bit_xor}
+use Rattle.std.specs.Fn.{Shared}
+use denote.Ref.{MutBor}
 use Rattle.block.specs.Arith.{Arith, from_bytes}
 use Rattle.block.specs.Blocks.{Block64, Block128, arith64, arith128}
-use Rattle.engine.specs.Meaning.{Meaning}
+use Rattle.engine.specs.Meaning.{Meaning, answered}
+use Rattle.engine.specs.declared.fault.EngineFault.{EngineFault}
 use Rattle.engine.specs.Refusals.{Refusal}
 use Rattle.pmac.specs.Sealing.{Outcome, worked, refused, full_tag}
 
@@ -19,24 +22,21 @@ summed A f memory (suc n) = A.plus (summed A f memory n) (f (block_at A memory n
 abbrev pub total : {B : Type 0} → Arith B → (B → B) → List ℕ → B
 total A f memory = summed A f memory (length memory / A.size)
 
+-- the same under what came of a key, by the way of its engine's meaning that w picks
+abbrev pub total_under : {B : Type 0} → Arith B → (Meaning B → B → B) → Result (Meaning B) Refusal → List ℕ → Option B
+total_under A w (Ok m) memory = Some (total A (w m) memory)
+total_under A w (Err r) memory = None
+
+-- a call of `way` answers what w makes of the block by the engine's meaning, and leaves the engine with the same map
+abbrev pub IsWay : {E B F : Type 0} → (E → Meaning B) → (Meaning B → B → B) → Shared F (MutBor E × (B × Unit {0})) (Result B EngineFault × (MutBor E × Unit {0})) → F → Type 0
+IsWay {E} {B} means w calls way = (engine : MutBor E) (block : B) (result : Result B EngineFault) (left : MutBor E) → calls.post way (engine, (block, tt)) (result, (left, tt))
+    → (result ≡ answered (means engine.now).left (w (means engine.now) block)) × (w (means left.now) ≡ w (means engine.now))
+
 -- a block's two halves, summed
 abbrev pub folded : Block128 → ℕ
 folded x = bit_xor (x.value / 2 ^ 64) (x.value % 2 ^ 64)
 
--- what an engine's enciphering or deciphering of a memory adds up to
-abbrev pub enciphering : Result (Meaning Block128) Refusal → List ℕ → ℕ
-enciphering (Ok m) memory = folded (total arith128 m.enc memory)
-enciphering (Err r) memory = 0
-
-abbrev pub deciphering : Result (Meaning Block128) Refusal → List ℕ → ℕ
-deciphering (Ok m) memory = folded (total arith128 m.dec memory)
-deciphering (Err r) memory = 0
-
--- the full tag of a whole memory, if it is not refused
-abbrev pub tag_of : {B : Type 0} → Outcome B → Option B
-tag_of (worked tag n) = Some tag
-tag_of (refused r) = None
-
+-- 0 where there is none
 abbrev pub folded128 : Option Block128 → ℕ
 folded128 (Some x) = folded x
 folded128 None = 0
@@ -45,10 +45,25 @@ abbrev pub folded64 : Option Block64 → ℕ
 folded64 (Some x) = x.value
 folded64 None = 0
 
+-- what an engine's enciphering or deciphering of a memory adds up to
+abbrev pub enciphering : Result (Meaning Block128) Refusal → List ℕ → ℕ
+enciphering made memory = folded128 (total_under arith128 (λ m. m.enc) made memory)
+
+abbrev pub deciphering : Result (Meaning Block128) Refusal → List ℕ → ℕ
+deciphering made memory = folded128 (total_under arith128 (λ m. m.dec) made memory)
+
+-- the full tag of a whole memory, if it is not refused
+abbrev pub tag_of : {B : Type 0} → Outcome B → Option B
+tag_of (worked tag n) = Some tag
+tag_of (refused r) = None
+
+-- the full tag of a whole memory under what came of a key; none where either is refused
+abbrev pub tag_under : {B : Type 0} → Arith B → Result (Meaning B) Refusal → List ℕ → Option B
+tag_under A (Ok m) memory = tag_of (full_tag A m memory (8 * length memory))
+tag_under A (Err r) memory = None
+
 abbrev pub tag128 : Result (Meaning Block128) Refusal → List ℕ → ℕ
-tag128 (Ok m) memory = folded128 (tag_of (full_tag arith128 m memory (8 * length memory)))
-tag128 (Err r) memory = 0
+tag128 made memory = folded128 (tag_under arith128 made memory)
 
 abbrev pub tag64 : Result (Meaning Block64) Refusal → List ℕ → ℕ
-tag64 (Ok m) memory = folded64 (tag_of (full_tag arith64 m memory (8 * length memory)))
-tag64 (Err r) memory = 0
+tag64 made memory = folded64 (tag_under arith64 made memory)

@@ -1,5 +1,5 @@
 // A message sealed by the calls of an open overlay, and edited by them, under any engine.
-ghost use Rattle.std.specs.Prelude.{◌≡◌, ◌*◌, true, length, take, is_ok};
+ghost use Rattle.std.specs.Prelude.{◌≡◌, ◌*◌, length, take, is_ok, is_some, OnSome};
 ghost use Rattle.block.specs.Arith.{to_bytes};
 ghost use Rattle.bits.specs.Memory.{standing};
 ghost use Rattle.pmac.specs.Pmac.{full};
@@ -7,7 +7,7 @@ ghost use Rattle.overlay.specs.Views.{state};
 ghost use Rattle.bench.specs.Calls.{Keeps};
 
 use engine::Engine;
-use overlay::{Answer, Ledger, Open, Opened, Slip};
+use overlay::{Answer, Ledger, Open, Slip};
 
 // The blocks of 128 bits that edits go round.
 const ROUND: u32 = 4096;
@@ -22,59 +22,52 @@ fn settle(mut slip: Slip) -> u32
     shown
 }
 
-// Whether a call was carried out; its slip ends.
-fn carried(answer: Answer) -> bool
-    ensures { result ≡ is_ok answer.outcome }
+// Whether a call was carried out, as `?` asks; its slip ends.
+fn carried(answer: Answer) -> Option<()>
+    ensures { is_some result ≡ is_ok answer.outcome }
 {
     let Answer { outcome, slip } = answer;
     let _ = settle(slip);
-    outcome.is_ok()
+    outcome.ok()
 }
 
-// Adds a message in pieces of `piece` bytes; answers whether every call was carried out.
-fn add_all<E: Engine>(opened: &mut Open<E>, memory: &mut [u8], message: &[u8], piece: usize) -> bool
+// Adds a message in pieces of `piece` bytes, as long as every call is carried out.
+fn add_all<E: Engine>(
+    opened: &mut Open<E>,
+    memory: &mut [u8],
+    message: &[u8],
+    piece: usize,
+) -> Option<()>
     requires { Keeps E.Block.Block.arith (state E.Engine.means opened.old) memory.old }
     ensures kept { Keeps E.Block.Block.arith (state E.Engine.means opened.new) memory.new }
     ensures same { (E.Engine.means opened.new.engine).enc ≡ (E.Engine.means opened.old.engine).enc }
 {
-    if message.len() > bits::MEMORY_BYTES {
-        return false;
+    for part in message.chunks(piece.max(1)) {
+        let count = u32::try_from(part.len()).ok()?.checked_mul(8)?;
+        carried(opened.add(memory, part, count))?;
     }
-    let mut start = 0;
-    while start < message.len() {
-        let end = start + piece.clamp(1, message.len() - start);
-        let count = 8 * (end - start) as u32;
-        if !carried(opened.add(memory, &message[start..end], count)) {
-            return false;
-        }
-        start = end;
-    }
-    true
+    Some(())
 }
 
-// Puts the first block of `edit` at one block after another, each with a tag behind it; answers whether every
-// call was carried out.
+// Puts the first block of `edit` at one block after another, each with a tag behind it, as long as every call is
+// carried out.
 fn put_round<E: Engine>(
     opened: &mut Open<E>,
     memory: &mut [u8],
     edit: &[u8],
     edits: u32,
     tag: &mut [u8],
-) -> bool
+) -> Option<()>
     requires { Keeps E.Block.Block.arith (state E.Engine.means opened.old) memory.old }
     ensures kept { Keeps E.Block.Block.arith (state E.Engine.means opened.new) memory.new }
     ensures same { (E.Engine.means opened.new.engine).enc ≡ (E.Engine.means opened.old.engine).enc }
 {
     for i in 0..edits {
         let position = 128 * (i % ROUND);
-        if !carried(opened.put(memory, position, edit, 128)) {
-            return false;
-        }
-        if !carried(opened.tag(memory, tag)) {
-            return false;
-        }
+        carried(opened.put(memory, position, edit, 128))?;
+        carried(opened.tag(memory, tag))?;
     }
-    true
+    Some(())
 }
 
 // Opens an overlay, adds a message in pieces, makes some edits, and asks for the tag of what then stands in the
@@ -86,22 +79,16 @@ pub(crate) fn tag_by_calls<E: Engine + Drop>(
     piece: usize,
     edits: u32,
     tag: &mut [u8],
-) -> bool
-    ensures { result ≡ true → tag.new ≡ take (length tag.old) (to_bytes E.Block.Block.arith (full E.Block.Block.arith (E.Engine.means engine).enc (standing (8 * length message.now) memory.new))) }
+) -> Option<()>
+    ensures { OnSome result (tag.new ≡ take (length tag.old) (to_bytes E.Block.Block.arith (full E.Block.Block.arith (E.Engine.means engine).enc (standing (8 * length message.now) memory.new)))) }
 {
-    let Opened { outcome, slip } = Open::new(engine, memory);
+    let Answer { outcome, slip } = Open::new(engine, memory);
     let _ = settle(slip);
-    let Ok(mut opened) = outcome else {
-        return false;
-    };
-    if !add_all(&mut opened, memory, message, piece) {
-        return false;
-    }
-    if !put_round(&mut opened, memory, message, edits, tag) {
-        return false;
-    }
+    let mut opened = outcome.ok()?;
+    add_all(&mut opened, memory, message, piece)?;
+    put_round(&mut opened, memory, message, edits, tag)?;
     if message.len() > bits::MEMORY_BYTES || opened.bits() as usize != 8 * message.len() {
-        return false;
+        return None;
     }
     carried(opened.tag(memory, tag))
 }

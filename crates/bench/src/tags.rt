@@ -4,7 +4,6 @@ ghost use Rattle.pmac.specs.Sealing.{full_tag};
 ghost use Rattle.bench.specs.Sums.{tag_of};
 
 use engine::Engine;
-use pmac::FullTag;
 
 pub(crate) fn full_tag<E: Engine>(engine: &mut E, memory: &[u8]) -> Option<E::Block>
     ensures { result ≡ tag_of (full_tag E.Block.Block.arith (E.Engine.means engine.old) memory.now (8 * length memory.now)) }
@@ -12,8 +11,5 @@ pub(crate) fn full_tag<E: Engine>(engine: &mut E, memory: &[u8]) -> Option<E::Bl
     if memory.len() > bits::MEMORY_BYTES {
         return None;
     }
-    match pmac::full_tag(engine, memory, 8 * memory.len()) {
-        Ok(FullTag { tag, .. }) => Some(tag),
-        Err(_) => None,
-    }
+    Some(pmac::full_tag(engine, memory, 8 * memory.len()).ok()?.tag)
 }

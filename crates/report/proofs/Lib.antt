@@ -1,3 +1,1 @@
-pub mod Spelling
-pub mod Unspelling
 pub mod Sealing

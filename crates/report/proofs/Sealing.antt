@@ -6,7 +6,7 @@ use Rattle.block.specs.Arith as arithmetic
 use Rattle.block.specs.Arith.{Arith, to_bytes}
 use Rattle.block.specs.BitsLemmas.{length_bits_of, length_bytes_of}
 use Rattle.bits.specs.Blocks.{blocks}
-use Rattle.bits.specs.Memory.{standing, unfit}
+use Rattle.bits.specs.Memory.{standing}
 use Rattle.bits.proofs.Counts.{blocks_some, blocks_inner}
 use Rattle.engine.specs.Refusals.{Refusal}
 use Rattle.engine.specs.Meaning.{Meaning, spent}
@@ -14,10 +14,10 @@ use Rattle.pmac.specs.Pmac.{full}
 use Rattle.pmac.specs.Prices.{add_due}
 use Rattle.overlay.specs.declared.fault.OverlayFault.{OverlayFault}
 use Rattle.overlay.specs.Refusals.{Outcome, carried, refused, overlay_refusal}
-use Rattle.overlay.specs.Calls.{State, World, After, Start, begun, back, begin, sent, afforded, judged, add, add_tests, add_done, tag, tag_tests, tag_done, taggable}
+use Rattle.overlay.specs.Judging.{decided, misfits, taggable, add_conditions, tag_conditions}
+use Rattle.overlay.specs.Calls.{State, World, After, Made, made, back, begin, sent, did, add, add_done, tag, tag_done}
 use Rattle.overlay.specs.Laws.{Stands, then, Adds, Tags}
-use Rattle.report.specs.Seal.{seal_line, seal_of}
-use Rattle.report.specs.Calls.{tagged, stopped, came, ended, Handed, came_line, sealing}
+use Rattle.report.specs.Calls.{tagged, stopped, came, ended, Handed, sealing}
 
 -- refusal 8, with what it tells
 abbrev short : ℕ → ℕ → Refusal
@@ -36,22 +36,22 @@ module _ {S : Type 0} (left : ℕ) (v : World S) (due : ℕ) (done : World S) wh
   abbrev Ways : After S → Type 0
   Ways a = ((left < due) × (a ≡ sent v (short due left))) ⊎ ((due ≤ left) × (a ≡ record { outcome = carried; slip = due; world = done }))
 
-  judged_is : (ts : List (Bool × ℕ)) → Pass ts → judged left v ts due done ≡ afforded left v due done
-  judged_is [] p = refl
-  judged_is (t ∷ ts) p = cond-false _ _ _ p.0 ∙ judged_is ts p.1
+  passed : (ts : List (Bool × ℕ)) → Pass ts → decided (sent v) left ts due (did due done) ≡ decided (sent v) left [] due (did due done)
+  passed [] p = refl
+  passed (t ∷ ts) p = cond-false _ _ _ p.0 ∙ passed ts p.1
 
-  ways : (ts : List (Bool × ℕ)) → Pass ts → (a : After S) → a ≡ judged left v ts due done → Ways a
+  ways : (ts : List (Bool × ℕ)) → Pass ts → (a : After S) → a ≡ decided (sent v) left ts due (did due done) → Ways a
   ways ts p a e = by (cases_lt left due)
     where
       by : (left < due) ⊎ (due ≤ left) → Ways a
-      by (inl h) = inl (h, e ∙ judged_is ts p ∙ cond-true _ _ _ (lt-ltb left due h))
-      by (inr h) = inr (h, e ∙ judged_is ts p ∙ cond-false _ _ _ (le-ltb left due h))
+      by (inl h) = inl (h, e ∙ passed ts p ∙ cond-true _ _ _ (lt-ltb left due h))
+      by (inr h) = inr (h, e ∙ passed ts p ∙ cond-false _ _ _ (le-ltb left due h))
 
 -- the exit of a refusal, whatever the buffer holds
 pub came_stopped : (bytes : List ℕ) (r : Result ℕ OverlayFault) (fault : OverlayFault) → r ≡ Err fault → came r bytes ≡ stopped (overlay_refusal fault).number
 came_stopped bytes r fault e = ap (λ x. came x bytes) e
 
-fits : (memory : List ℕ) (b : ℕ) → length memory ≤ 65536 → b ≤ 8 * length memory → unfit memory b ≡ false
+fits : (memory : List ℕ) (b : ℕ) → length memory ≤ 65536 → b ≤ 8 * length memory → misfits (length memory) b ≡ false
 fits memory b s h = cond-false _ _ _ (le-ltb 65536 (length memory) s) ∙ le-ltb (8 * length memory) b h
 
 module _ {B : Type 0} {A : Arith B} (w : arithmetic.Laws A) where
@@ -79,8 +79,8 @@ module _ {B : Type 0} {A : Arith B} (w : arithmetic.Laws A) where
   sealing_goes m message due h = sym (cond-false _ _ _ (le-ltb m.left due h))
 
   -- open
-  start_number : Start A → ℕ
-  start_number (begun s slip) = 0
+  start_number : Made (State B) (Meaning B) → ℕ
+  start_number (made s slip) = 0
   start_number (back m r slip) = r.number
 
   pub open_stops : (m n : Meaning B) (memory message : List ℕ) (r : Refusal) (slip : ℕ) → length memory ≤ 65536 → back n r slip ≡ begin A m memory
@@ -93,7 +93,7 @@ module _ {B : Type 0} {A : Arith B} (w : arithmetic.Laws A) where
           let is : r.number ≡ 8 = ap start_number (e ∙ cond-false _ _ _ (fits memory 0 small (omega arith)) ∙ cond-true _ _ _ (lt-ltb m.left 1 h)) in
           ap stopped is ∙ sealing_stops m message _ (omega arith)
       by (inr h) =
-          let q : back n r slip ≡ begun (record { bits = 0; l = m.enc A.zero; sum = A.zero; engine = spent 1 m }) 1 =
+          let q : back n r slip ≡ made (record { bits = 0; l = m.enc A.zero; sum = A.zero; engine = spent 1 m }) 1 =
           e ∙ cond-false _ _ _ (fits memory 0 small (omega arith)) ∙ cond-false _ _ _ (le-ltb m.left 1 h) in
           cc
 
@@ -119,7 +119,7 @@ module _ {B : Type 0} {A : Arith B} (w : arithmetic.Laws A) where
         let room = handed.room in
         let small = handed.small in
         let none = no_bits v.state v.memory h in
-        ways v.state.engine.left v due (add_done A v message all) (add_tests A v message all)
+        ways v.state.engine.left v due (add_done A v message all) (add_conditions (length v.memory) v.state.bits (length message) all)
         (fits v.memory v.state.bits (omega arith) h.fits, (le-ltb _ _ (omega arith), (le-ltb _ _ (omega arith), tt))) a e
 
     pub add_stops : (a : After (State B)) → a ≡ add A v message all → (r : Refusal) → a.outcome ≡ refused r → stopped r.number ≡ sealing A v.state.engine message (blocks A all)
@@ -158,7 +158,7 @@ module _ {B : Type 0} {A : Arith B} (w : arithmetic.Laws A) where
           let small = handed.small in
           let long : length a.world.memory ≡ length v.memory = ap (λ x. length x.world.memory) added.1 ∙ length_bytes_of (length v.memory) _ in
           let whole : taggable A (length buffer) ≡ true = ap (taggable A) handed.whole ∙ handed.tags in
-          ways a.world.state.engine.left u 1 (tag_done A u) (tag_tests A u)
+          ways a.world.state.engine.left u 1 (tag_done A u) (tag_conditions A (length u.memory) u.state.bits (length u.buffer))
           (fits a.world.memory a.world.state.bits (omega arith) stands.fits, (not_from_true _ whole, tt)) z f
 
       pub tag_ends : (z : After (State B)) → z ≡ tag A u → Tags A u z → ended z.outcome (a.slip + z.slip) z.world.buffer ≡ sealing A v.state.engine message (blocks A all)
@@ -183,18 +183,3 @@ module _ {B : Type 0} {A : Arith B} (w : arithmetic.Laws A) where
               tags.tag_is (take all (bits_of message)) stands ∙ ap (λ x. then x (take (length buffer) (to_bytes A (full A a.world.state.engine.enc (take all (bits_of message))))) buffer) oz
               ∙ ap (λ f. take (length buffer) (to_bytes A (full A f (take all (bits_of message))))) enc ∙ take_all (length buffer) bytes (omega arith) in
               ap (λ x. ended x (a.slip + z.slip) z.world.buffer) oz ∙ ap (λ n. tagged z.world.buffer n) sum ∙ ap (λ x. tagged x (blocks A all)) got ∙ sealing_goes v.state.engine message _ high
-
-  -- the line
-  pub line_is : (m : Meaning B) (message : List ℕ) → length message ≤ 65536
-      → came_line A (8 * length message) (sealing A m message (blocks A (8 * length message) + 1)) ≡ seal_of A m message
-  line_is m message small = by (cases_lt m.left (blocks A (8 * length message) + 1))
-    where
-      fit : unfit message (8 * length message) ≡ false
-      fit = fits message (8 * length message) small (omega arith)
-
-      by : (m.left < blocks A (8 * length message) + 1) ⊎ (blocks A (8 * length message) + 1 ≤ m.left)
-          → came_line A (8 * length message) (sealing A m message (blocks A (8 * length message) + 1)) ≡ seal_of A m message
-      by (inl h) =
-          ap (came_line A (8 * length message)) (sym (sealing_stops m message _ h)) ∙ sym (ap (seal_line A (8 * length message)) (cond-false _ _ _ fit ∙ cond-true _ _ _ (lt-ltb _ _ h)))
-      by (inr h) =
-          ap (came_line A (8 * length message)) (sym (sealing_goes m message _ h)) ∙ sym (ap (seal_line A (8 * length message)) (cond-false _ _ _ fit ∙ cond-false _ _ _ (le-ltb _ _ h)))

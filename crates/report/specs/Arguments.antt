@@ -1,16 +1,12 @@
 -- What the program `seal` prints for its arguments. Assumes nothing.
-use Rattle.std.specs.Prelude.{ℕ, cond, List, take, drop, Some, None, Ok, Err, codes, Option, Result}
-use Rattle.std.specs.Str.{bytes_eq, chars}
+use Rattle.std.specs.Prelude.{ℕ, List, take, drop, Some, None, Ok, Err, codes, Option, Result}
+use Rattle.std.specs.Str.{chars}
 use Rattle.keys.specs.declared.fault.EntryFault.{EntryFault}
 use Rattle.keys.specs.Refusals.{entry_refusal}
 use Rattle.keys.specs.Keys.{key_of}
 use Rattle.report.specs.declared.cipher.Cipher.{Cipher}
-use Rattle.report.specs.declared.cipher.Cipher.TheVariants.{Aes, Xtea}
+use Rattle.report.specs.Ciphers.{named}
 use Rattle.report.specs.Seal.{under_header, refusal_line, seal_by}
-
--- the ciphers by their names
-abbrev pub named : List ℕ → Option Cipher
-named name = cond (bytes_eq name (codes "aes")) (Some Aes) (cond (bytes_eq name (codes "xtea")) (Some Xtea) None)
 
 -- for a name of no cipher, the names that there are
 abbrev pub engines : List ℕ

@@ -7,8 +7,8 @@ use Rattle.engine.specs.Meaning.{Meaning}
 use Rattle.pmac.specs.Pmac.{full}
 use Rattle.overlay.specs.declared.fault.OverlayFault.{OverlayFault}
 use Rattle.overlay.specs.Refusals.{Outcome, carried, refused, overlay_refusal}
-use Rattle.overlay.specs.Calls.{taggable}
-use Rattle.report.specs.Hex.{hex_of}
+use Rattle.overlay.specs.Judging.{taggable}
+use Rattle.hex.specs.Hex.{encode_lower}
 use Rattle.report.specs.Seal.{tag_line, refusal_line}
 
 -- a tag's bytes and the operations on the slips, or the number of the first refusal
@@ -35,7 +35,7 @@ pub record Handed {B : Type 0} (A : Arith B) (memory message buffer : List ℕ) 
 module _ {B : Type 0} (A : Arith B) where
   -- the line for b bits
   abbrev pub came_line : ℕ → Came → List ℕ
-  came_line b (tagged tag n) = tag_line b (blocks A b) n (hex_of tag)
+  came_line b (tagged tag n) = tag_line b (blocks A b) n (encode_lower tag)
   came_line b (stopped number) = refusal_line number
 
   -- the full tag of all of a message for a number of operations, or refusal 8 where fewer are left

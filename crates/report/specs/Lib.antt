@@ -1,4 +1,5 @@
 pub mod Hex
+pub mod Ciphers
 pub mod Seal
 pub mod Calls
 pub mod Shown

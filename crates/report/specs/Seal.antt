@@ -10,7 +10,7 @@ use Rattle.aes.specs.Maps.{aes}
 use Rattle.xtea.specs.Xtea.{made as xtea_of}
 use Rattle.report.specs.declared.cipher.Cipher.{Cipher}
 use Rattle.report.specs.declared.cipher.Cipher.TheVariants.{Aes, Xtea}
-use Rattle.report.specs.Hex.{hex_of}
+use Rattle.hex.specs.Hex.{encode_lower}
 
 -- one line: bits, blocks, operations and the full tag in hex, or the refusal's number
 abbrev pub tag_line : ℕ → ℕ → ℕ → List ℕ → List ℕ
@@ -20,7 +20,7 @@ abbrev pub refusal_line : ℕ → List ℕ
 refusal_line number = codes "refusal " ++ decimal number
 
 abbrev pub seal_line : {B : Type 0} → Arith B → ℕ → Outcome B → List ℕ
-seal_line A b (worked tag n) = tag_line b (blocks A b) n (hex_of (to_bytes A tag))
+seal_line A b (worked tag n) = tag_line b (blocks A b) n (encode_lower (to_bytes A tag))
 seal_line A b (refused r) = refusal_line r.number
 
 abbrev pub under_header : List ℕ → List ℕ

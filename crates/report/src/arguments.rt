@@ -1,65 +1,46 @@
 // What the program `seal` prints for its arguments.
-ghost use Rattle.std.specs.Prelude.{◌≡◌, [], take, drop, IfOk, string_bytes};
-ghost use Rattle.std.specs.Str.{chars};
-ghost use Rattle.keys.specs.Keys.{key_of};
-ghost use Rattle.report.specs.Arguments.{engines, seal_input, seal_key, seal_typed};
-ghost use Rattle.report.specs.Seal.{seal_by, under_header};
+ghost use Rattle.std.specs.Prelude.{◌≡◌, IfOk, string_bytes};
+ghost use Rattle.report.specs.Arguments.{engines, seal_input, seal_key};
+ghost use Rattle.report.specs.Shown.{Prints};
 
-use crate::seal::under_header;
-use crate::{Cipher, SealLine, cipher_named, seal_text};
-use engine::Numbered;
+use crate::seal::{seal, text_of};
+use crate::{Cipher, SealFault, Sealed};
 use keys::{KEY_BYTES, key_from};
 use std::alloc::{AllocError, Global};
 
 // The names of the ciphers, for whoever gave none of them.
-pub fn engine_names(heap: Global) -> Result<String, AllocError>
+pub fn engine_names(alloc: Global) -> Result<String, AllocError>
     ensures { IfOk result (λ s. string_bytes s ≡ engines) }
 {
-    String::from_str(heap, "engines: aes xtea\n")
+    String::from_str(alloc, "engines: aes xtea\n")
 }
 
 // The key is the input's first 16 bytes, and the message what follows.
-pub fn seal_input(heap: Global, name: &str, input: &[u8]) -> Result<String, AllocError>
+pub fn seal_input(alloc: Global, name: &str, input: &[u8]) -> Result<String, AllocError>
     ensures { IfOk result (λ s. string_bytes s ≡ seal_input name.now input.now) }
 {
-    match cipher_named(name) {
-        Some(cipher) => seal_split(heap, cipher, input),
-        None => engine_names(heap),
-    }
+    text_of(alloc, seal_split(alloc, name, input))
 }
 
 // The key is typed as hex digits, and the message is the whole input.
-pub fn seal_key(heap: Global, name: &str, digits: &str, input: &[u8]) -> Result<String, AllocError>
+pub fn seal_key(alloc: Global, name: &str, digits: &str, input: &[u8]) -> Result<String, AllocError>
     ensures { IfOk result (λ s. string_bytes s ≡ seal_key name.now digits.now input.now) }
 {
-    match cipher_named(name) {
-        Some(cipher) => seal_typed(heap, cipher, digits, input),
-        None => engine_names(heap),
-    }
+    text_of(alloc, seal_typed(alloc, name, digits, input))
 }
 
-fn seal_split(heap: Global, cipher: Cipher, input: &[u8]) -> Result<String, AllocError>
-    ensures { IfOk result (λ s. string_bytes s ≡ under_header (seal_by cipher (take 16 input.now) (drop 16 input.now))) }
+fn seal_split(alloc: Global, name: &str, input: &[u8]) -> Result<Sealed, SealFault>
+    ensures { Prints result (seal_input name.now input.now) }
 {
+    let cipher = name.parse::<Cipher>()?;
     let (key, message) = input.split_at(input.len().min(KEY_BYTES));
-    seal_text(heap, cipher, key, message)
+    seal(alloc, cipher, key, message)
 }
 
-fn seal_typed(
-    heap: Global,
-    cipher: Cipher,
-    digits: &str,
-    input: &[u8],
-) -> Result<String, AllocError>
-    ensures { IfOk result (λ s. string_bytes s ≡ seal_typed cipher (key_of 16 (chars digits.now)) input.now) }
+fn seal_typed(alloc: Global, name: &str, digits: &str, input: &[u8]) -> Result<Sealed, SealFault>
+    ensures { Prints result (seal_key name.now digits.now input.now) }
 {
-    match key_from(digits) {
-        Ok(key) => seal_text(heap, cipher, &key, input),
-        Err(fault) => under_header(
-            heap,
-            &SealLine::Refusal {
-                number: fault.number(),
-            },
-        ),
-    }
+    let cipher = name.parse::<Cipher>()?;
+    let key = key_from(digits)?;
+    seal(alloc, cipher, &key, input)
 }

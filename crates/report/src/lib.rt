@@ -4,11 +4,13 @@
 mod arguments;
 mod cipher;
 mod digits;
+mod fault;
 mod seal;
 mod vector;
 
 pub use arguments::{engine_names, seal_input, seal_key};
-pub use cipher::{Cipher, cipher_named};
-pub use digits::{hex, unhex};
-pub use seal::{SealLine, seal_text};
-pub use vector::{Kind, vector_answer};
+pub use cipher::{Cipher, UnknownCipher};
+pub use digits::unhex;
+pub use fault::SealFault;
+pub use seal::{Sealed, seal_text};
+pub use vector::{Kind, UnknownKind, Vector};

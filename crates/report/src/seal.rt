@@ -1,25 +1,21 @@
 // The text that sealing one overlay prints.
-ghost use Rattle.std.specs.Prelude.{◌≡◌, ◌+◌, ◌*◌, ◌≤◌, true, [], ◌++◌, length, set, IfOk, Some, string_bytes, codes};
+ghost use Rattle.std.specs.Prelude.{◌≡◌, ◌+◌, ◌*◌, ◌≤◌, true, [], List, ℕ, length, set, IfOk, IfSome, Some, string_bytes};
 ghost use Rattle.block.specs.Arith.{to_bytes};
 ghost use Rattle.bits.specs.Blocks.{blocks as blocks_of};
-ghost use Rattle.overlay.specs.Calls.{taggable};
+ghost use Rattle.hex.specs.Hex.{encode_lower};
+ghost use Rattle.overlay.specs.Judging.{taggable};
 ghost use Rattle.overlay.specs.Laws.{Stands};
 ghost use Rattle.overlay.specs.Ledger.{at};
 ghost use Rattle.overlay.specs.Views.{state};
-ghost use Rattle.report.specs.Calls.{Handed, came, came_line, sealing};
-ghost use Rattle.report.specs.Hex.{hex_of};
+ghost use Rattle.report.specs.Calls.{Handed, came, came_line, sealing, tagged};
 ghost use Rattle.report.specs.Seal.{refusal_line, seal_of, seal_under, seal_by, under_header};
-ghost use Rattle.report.specs.Shown.{line_bytes};
-ghost use Rattle.block.specs.Blocks.{arith64, arith128};
-ghost use Rattle.aes.specs.Maps.{aes as aes_of};
-ghost use Rattle.engine.specs.Refusals.{key_refusal};
-ghost use Rattle.xtea.specs.Xtea.{made as xtea_of};
+ghost use Rattle.report.specs.Shown.{sealed_line, Prints};
 
-use crate::{Cipher, hex};
+use crate::{Cipher, SealFault, engine_names};
 use aes::Aes128;
 use block::Block;
-use engine::{Engine, KeyFault, Keyed, Numbered};
-use overlay::{Answer, Ledger, Open, Opened, OverlayFault, Slip};
+use engine::{Engine, Keyed, Numbered};
+use overlay::{Answer, Ledger, Open, OverlayFault, Slip};
 use std::alloc::{AllocError, Global};
 use std::fmt;
 use xtea::Xtea;
@@ -27,146 +23,141 @@ use xtea::Xtea;
 // The operations that a program's engine is made with.
 pub(crate) const ALLOWANCE: u32 = 1_000_000;
 
-// What sealing an overlay came to.
+// A sealed overlay: its bits and blocks, the operations that were due, and its tag in hex.
 #[derive(Drop)]
-pub enum SealLine {
-    Tag {
-        bits: usize,
-        blocks: usize,
-        operations: u32,
-        tag: String,
-    },
-    Refusal {
-        number: u32,
-    },
+pub struct Sealed {
+    bits: usize,
+    blocks: usize,
+    operations: u32,
+    tag: String,
 }
 
-impl SealLine {
-    // The line for a key that gives no engine.
-    fn refusal(fault: KeyFault) -> Self
-        ensures { line_bytes result ≡ refusal_line (key_refusal fault).number }
-    {
-        SealLine::Refusal {
-            number: fault.number(),
-        }
-    }
-}
-
-impl fmt::Display for SealLine {
-    ghost output = { λ line. Some (line_bytes line) };
+impl fmt::Display for Sealed {
+    ghost output = { λ sealed. Some (sealed_line sealed) };
 
     fn fmt<W: fmt::Write>(&self, f: &mut fmt::Formatter<W>) -> fmt::Result {
-        match self {
-            SealLine::Tag {
-                bits,
-                blocks,
-                operations,
-                tag,
-            } => write!(f, "{bits} {blocks} {operations} {tag}"),
-            SealLine::Refusal { number } => write!(f, "refusal {number}"),
-        }
+        let Sealed {
+            bits,
+            blocks,
+            operations,
+            tag,
+        } = self;
+        write!(f, "{bits} {blocks} {operations} {tag}")
     }
 }
 
-// The line for a whole message under an engine whose blocks have a tag's length.
-fn seal_line<E: Engine + Drop>(
-    heap: Global,
-    engine: E,
-    message: &[u8],
-) -> Result<SealLine, AllocError>
-    requires { taggable E.Block.Block.arith E.Block.Block.arith.size ≡ true }
-    ensures { IfOk result (λ line. line_bytes line ≡ seal_of E.Block.Block.arith (E.Engine.means engine) message.now) }
-{
-    if message.len() > bits::MEMORY_BYTES {
-        return Ok(SealLine::Refusal {
-            number: OverlayFault::Memory.number(),
-        });
-    }
-    let mut memory = vec![in heap; 0u8; message.len()]?;
-    let mut bytes = [0u8; 16];
-    let size = E::Block::size();
-    let outcome = sealed(engine, &mut memory, message, &mut bytes[..size]);
-    line_of::<E::Block>(heap, message.len(), outcome, &bytes[..size])
-}
-
-// The line for what came of sealing a message of `len` bytes, with the tag's bytes.
-fn line_of<B: Block>(
-    heap: Global,
-    len: usize,
-    outcome: Result<u32, OverlayFault>,
-    tag: &[u8],
-) -> Result<SealLine, AllocError>
-    requires { len ≤ 65536 }
-    ensures { IfOk result (λ line. line_bytes line ≡ came_line B.Block.arith (8 * len) (came outcome tag.now)) }
-{
-    match outcome {
-        Ok(operations) => {
-            let bits = 8 * len;
-            let blocks = bits::block_count::<B>(bits);
-            let tag = hex(heap, tag)?;
-            Ok(SealLine::Tag {
-                bits,
-                blocks,
-                operations,
-                tag,
-            })
-        }
-        Err(refused) => Ok(SealLine::Refusal {
-            number: refused.number(),
-        }),
-    }
-}
-
-// The text for a message under a key: the header, and the line under it.
+// The text for a message under a key.
 pub fn seal_text(
-    heap: Global,
+    alloc: Global,
     cipher: Cipher,
     key: &[u8],
     message: &[u8],
 ) -> Result<String, AllocError>
     ensures { IfOk result (λ s. string_bytes s ≡ under_header (seal_by cipher key.now message.now)) }
 {
-    let line = line_by(heap, cipher, key, message)?;
-    under_header(heap, &line)
+    text_of(alloc, seal(alloc, cipher, key, message))
+}
+
+// What is printed for what sealing came to.
+pub(crate) fn text_of(
+    alloc: Global,
+    outcome: Result<Sealed, SealFault>,
+) -> Result<String, AllocError>
+    ensures { (text : List ℕ) → Prints outcome text → IfOk result (λ s. string_bytes s ≡ text) }
+{
+    match outcome {
+        Ok(sealed) => under_header(alloc, &sealed),
+        Err(SealFault::UnknownCipher(_)) => engine_names(alloc),
+        Err(SealFault::Entry(fault)) => refused(alloc, fault),
+        Err(SealFault::Key(fault)) => refused(alloc, fault),
+        Err(SealFault::Overlay(fault)) => refused(alloc, fault),
+        Err(SealFault::OutOfMemory(error)) => Err(error),
+    }
 }
 
 // The header, and a line under it.
-pub(crate) fn under_header(heap: Global, line: &SealLine) -> Result<String, AllocError>
-    ensures { IfOk result (λ s. string_bytes s ≡ under_header (line_bytes line.now)) }
+fn under_header<L: fmt::Display>(alloc: Global, line: &L) -> Result<String, AllocError>
+    ensures { IfSome (L.output line.now) (λ shown. IfOk result (λ s. string_bytes s ≡ under_header shown)) }
 {
-    format!(in heap; "bits blocks operations tag\n{line}\n")
+    format!(in alloc; "bits blocks operations tag\n{line}\n")
 }
 
-// The line for a message under a key.
-fn line_by(heap: Global, cipher: Cipher, key: &[u8], message: &[u8]) -> Result<SealLine, AllocError>
-    ensures { IfOk result (λ line. line_bytes line ≡ seal_by cipher key.now message.now) }
+// The header, and a refusal's number under it.
+fn refused<F: Numbered>(alloc: Global, fault: F) -> Result<String, AllocError>
+    ensures { IfOk result (λ s. string_bytes s ≡ under_header (refusal_line (F.refusal fault).number)) }
+{
+    let number = fault.number();
+    let line = format!(in alloc; "refusal {number}")?;
+    under_header(alloc, &line)
+}
+
+// Seals a message under a key.
+pub(crate) fn seal(
+    alloc: Global,
+    cipher: Cipher,
+    key: &[u8],
+    message: &[u8],
+) -> Result<Sealed, SealFault>
+    ensures { Prints result (under_header (seal_by cipher key.now message.now)) }
 {
     match cipher {
-        Cipher::Aes => aes_line(heap, key, message),
-        Cipher::Xtea => xtea_line(heap, key, message),
+        Cipher::Aes => seal_under::<Aes128>(alloc, key, message),
+        Cipher::Xtea => seal_under::<Xtea>(alloc, key, message),
     }
 }
 
-fn aes_line(heap: Global, key: &[u8], message: &[u8]) -> Result<SealLine, AllocError>
-    ensures { IfOk result (λ line. line_bytes line ≡ seal_under arith128 (aes_of 4 key.now 1000000) message.now) }
+// Seals a message under a key of one cipher, whose blocks have a tag's length.
+fn seal_under<C: Keyed + Drop>(
+    alloc: Global,
+    key: &[u8],
+    message: &[u8],
+) -> Result<Sealed, SealFault>
+    requires { taggable C.Block.Block.arith C.Block.Block.arith.size ≡ true }
+    ensures { Prints result (under_header (seal_under C.Block.Block.arith (C.made key.now 1000000) message.now)) }
 {
-    match Aes128::new(key, ALLOWANCE) {
-        Ok(engine) => seal_line(heap, engine, message),
-        Err(fault) => Ok(SealLine::refusal(fault)),
-    }
+    let engine = C::new(key, ALLOWANCE)?;
+    seal_by_engine(alloc, engine, message)
 }
 
-fn xtea_line(heap: Global, key: &[u8], message: &[u8]) -> Result<SealLine, AllocError>
-    ensures { IfOk result (λ line. line_bytes line ≡ seal_under arith64 (xtea_of key.now 1000000) message.now) }
+// Seals a message in a memory that is as long.
+fn seal_by_engine<E: Engine + Drop>(
+    alloc: Global,
+    engine: E,
+    message: &[u8],
+) -> Result<Sealed, SealFault>
+    requires { taggable E.Block.Block.arith E.Block.Block.arith.size ≡ true }
+    ensures { Prints result (under_header (seal_of E.Block.Block.arith (E.Engine.means engine) message.now)) }
 {
-    match Xtea::new(key, ALLOWANCE) {
-        Ok(engine) => seal_line(heap, engine, message),
-        Err(fault) => Ok(SealLine::refusal(fault)),
+    if message.len() > bits::MEMORY_BYTES {
+        return Err(SealFault::Overlay(OverlayFault::Memory));
     }
+    let mut memory = vec![in alloc; 0u8; message.len()]?;
+    let mut tag = vec![in alloc; 0u8; E::Block::size()]?;
+    let operations = make_calls(engine, &mut memory, message, &mut tag)?;
+    Ok(sealed_of::<E::Block>(alloc, message.len(), operations, &tag)?)
+}
+
+// What is shown of a sealed message of `len` bytes, with the tag's bytes.
+fn sealed_of<B: Block>(
+    alloc: Global,
+    len: usize,
+    operations: u32,
+    tag: &[u8],
+) -> Result<Sealed, AllocError>
+    requires { len ≤ 65536 }
+    ensures { IfOk result (λ sealed. sealed_line sealed ≡ came_line B.Block.arith (8 * len) (tagged tag.now operations)) }
+{
+    let bits = 8 * len;
+    Ok(Sealed {
+        bits,
+        blocks: bits::block_count::<B>(bits),
+        operations,
+        tag: hex::encode(alloc, tag)?,
+    })
 }
 
 // Opens an overlay, adds all of a message and asks for the full tag. Answers the operations, which are all booked.
-fn sealed<E: Engine + Drop>(
+fn make_calls<E: Engine + Drop>(
     engine: E,
     memory: &mut [u8],
     message: &[u8],
@@ -176,7 +167,7 @@ fn sealed<E: Engine + Drop>(
     ensures { came result tag.new ≡ sealing E.Block.Block.arith (E.Engine.means engine) message.now (blocks_of E.Block.Block.arith (8 * length message.now) + 1) }
 {
     let mut ledger = Ledger::new(0);
-    let Opened { outcome, slip } = Open::new(engine, memory);
+    let Answer { outcome, slip } = Open::new(engine, memory);
     let opening = settle(&mut ledger, 0, slip);
     match outcome {
         Ok(mut opened) => {
@@ -223,11 +214,10 @@ fn settle(ledger: &mut Ledger, account: u8, mut slip: Slip) -> u32
 }
 
 // A block's bytes as hex.
-pub(crate) fn tag_hex<B: Block>(heap: Global, tag: B) -> Result<String, AllocError>
-    ensures { IfOk result (λ s. string_bytes s ≡ hex_of (to_bytes B.Block.arith tag)) }
+pub(crate) fn block_hex<B: Block>(alloc: Global, block: B) -> Result<String, AllocError>
+    ensures { IfOk result (λ s. string_bytes s ≡ encode_lower (to_bytes B.Block.arith block)) }
 {
-    let size = B::size();
-    let mut bytes = [0u8; 16];
-    tag.write(&mut bytes[..size]);
-    hex(heap, &bytes[..size])
+    let mut bytes = vec![in alloc; 0u8; B::size()]?;
+    block.write(&mut bytes);
+    hex::encode(alloc, bytes)
 }

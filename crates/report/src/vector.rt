@@ -1,116 +1,98 @@
 // Answers to test vectors.
-ghost use Rattle.std.specs.Prelude.{◌≡◌, length, IfOk};
-ghost use Rattle.block.specs.Blocks.{arith64, arith128};
-ghost use Rattle.aes.specs.Maps.{aes as aes_of};
-ghost use Rattle.xtea.specs.Xtea.{made as xtea_of};
-ghost use Rattle.report.specs.Vector.{tag_text, block_text, answer_of, answer_under, vector_of, text_of};
-ghost use Rattle.engine.specs.Meaning.{answered};
-ghost use Rattle.block.specs.Arith.{from_bytes};
-ghost use Rattle.pmac.specs.Sealing.{full_tag};
+ghost use Rattle.std.specs.Prelude.{◌≡◌, IfOk, Some};
+ghost use Rattle.std.specs.Result.{result_ok};
+ghost use Rattle.report.specs.Vector.{answer_under, block_of, kind_named, kind_name, vector_of, text_of};
 
 use crate::Cipher;
-use crate::seal::{ALLOWANCE, tag_hex};
+use crate::seal::{ALLOWANCE, block_hex};
 use aes::Aes128;
 use block::Block;
 use engine::{Engine, Keyed};
-use pmac::FullTag;
 use std::alloc::{AllocError, Global};
+use std::fmt;
+use std::str::FromStr;
 use xtea::Xtea;
 
 // What a vector is about: one block enciphered, or the full tag of some bits.
-#[derive(Clone, Copy)]
+#[derive(Clone, Copy, PartialEq, Eq, PartialOrd, Ord, Debug)]
 pub enum Kind {
     Block,
     Pmac,
 }
 
-// The answer in hex, or none where the key or the message is refused.
-pub fn vector_answer(
-    heap: Global,
-    kind: Kind,
-    cipher: Cipher,
-    key: &[u8],
-    bits: usize,
-    message: &[u8],
-) -> Result<Option<String>, AllocError>
-    ensures { IfOk result (λ o. text_of o ≡ vector_of kind cipher key.now bits message.now) }
-{
-    match cipher {
-        Cipher::Aes => by_aes(heap, kind, key, bits, message),
-        Cipher::Xtea => by_xtea(heap, kind, key, bits, message),
+// No kind of vector has the name.
+#[derive(Clone, Copy, PartialEq, Eq, Debug)]
+pub struct UnknownKind;
+
+impl FromStr for Kind {
+    type Err = UnknownKind;
+
+    ghost from_str_gives = { λ name result. result_ok result ≡ kind_named name };
+
+    fn from_str(name: &str) -> Result<Self, UnknownKind> {
+        match name {
+            "block" => Ok(Kind::Block),
+            "pmac" => Ok(Kind::Pmac),
+            _ => Err(UnknownKind),
+        }
     }
 }
 
-fn by_aes(
-    heap: Global,
-    kind: Kind,
-    key: &[u8],
-    bits: usize,
-    message: &[u8],
-) -> Result<Option<String>, AllocError>
-    ensures { IfOk result (λ o. text_of o ≡ answer_under arith128 kind (aes_of 4 key.now 1000000) bits message.now) }
-{
-    match Aes128::new(key, ALLOWANCE) {
-        Ok(mut engine) => answer(heap, &mut engine, kind, bits, message),
-        Err(_) => Ok(None),
+impl fmt::Display for Kind {
+    ghost output = { λ kind. Some (kind_name kind) };
+
+    fn fmt<W: fmt::Write>(&self, f: &mut fmt::Formatter<W>) -> fmt::Result {
+        match self {
+            Kind::Block => write!(f, "block"),
+            Kind::Pmac => write!(f, "pmac"),
+        }
     }
 }
 
-fn by_xtea(
-    heap: Global,
-    kind: Kind,
-    key: &[u8],
-    bits: usize,
-    message: &[u8],
-) -> Result<Option<String>, AllocError>
-    ensures { IfOk result (λ o. text_of o ≡ answer_under arith64 kind (xtea_of key.now 1000000) bits message.now) }
-{
-    match Xtea::new(key, ALLOWANCE) {
-        Ok(mut engine) => answer(heap, &mut engine, kind, bits, message),
-        Err(_) => Ok(None),
-    }
+// What a test vector asks for.
+#[derive(Clone, Copy)]
+pub struct Vector<'a> {
+    pub kind: Kind,
+    pub cipher: Cipher,
+    pub key: &'a [u8],
+    pub bits: usize,
+    pub message: &'a [u8],
 }
 
-fn answer<E: Engine>(
-    heap: Global,
-    engine: &mut E,
-    kind: Kind,
-    bits: usize,
-    message: &[u8],
-) -> Result<Option<String>, AllocError>
-    ensures { IfOk result (λ o. text_of o ≡ answer_of E.Block.Block.arith kind (E.Engine.means engine.old) bits message.now) }
-{
-    match kind {
-        Kind::Pmac => tag_answer(heap, engine, bits, message),
-        Kind::Block if message.len() == E::Block::size() => block_answer(heap, engine, message),
-        Kind::Block => Ok(None),
+impl Vector<'_> {
+    // The answer in hex, or none where the key or the message is refused.
+    pub fn answer(&self, alloc: Global) -> Result<Option<String>, AllocError>
+        ensures { IfOk result (λ o. text_of o ≡ vector_of self.now.kind self.now.cipher self.now.key.now self.now.bits self.now.message.now) }
+    {
+        match self.cipher {
+            Cipher::Aes => self.answer_under::<Aes128>(alloc),
+            Cipher::Xtea => self.answer_under::<Xtea>(alloc),
+        }
     }
-}
 
-fn tag_answer<E: Engine>(
-    heap: Global,
-    engine: &mut E,
-    bits: usize,
-    message: &[u8],
-) -> Result<Option<String>, AllocError>
-    ensures { IfOk result (λ o. text_of o ≡ tag_text E.Block.Block.arith (full_tag E.Block.Block.arith (E.Engine.means engine.old) message.now bits)) }
-{
-    match pmac::full_tag(engine, message, bits) {
-        Ok(FullTag { tag, .. }) => Ok(Some(tag_hex(heap, tag)?)),
-        Err(_) => Ok(None),
+    // The same under one cipher.
+    fn answer_under<C: Keyed + Drop>(&self, alloc: Global) -> Result<Option<String>, AllocError>
+        ensures { IfOk result (λ o. text_of o ≡ answer_under C.Block.Block.arith self.now.kind (C.made self.now.key.now 1000000) self.now.bits self.now.message.now) }
+    {
+        let Ok(mut engine) = C::new(self.key, ALLOWANCE) else {
+            return Ok(None);
+        };
+        match self.block(&mut engine) {
+            Some(block) => Ok(Some(block_hex(alloc, block)?)),
+            None => Ok(None),
+        }
     }
-}
 
-fn block_answer<E: Engine>(
-    heap: Global,
-    engine: &mut E,
-    message: &[u8],
-) -> Result<Option<String>, AllocError>
-    requires { length message.now ≡ E.Block.Block.arith.size }
-    ensures { IfOk result (λ o. text_of o ≡ block_text E.Block.Block.arith (answered (E.Engine.means engine.old).left ((E.Engine.means engine.old).enc (from_bytes E.Block.Block.arith message.now)))) }
-{
-    match engine.encipher(E::Block::read(message)) {
-        Ok(block) => Ok(Some(tag_hex(heap, block)?)),
-        Err(_) => Ok(None),
+    // The block that answers the vector.
+    fn block<E: Engine>(&self, engine: &mut E) -> Option<E::Block>
+        ensures { result ≡ block_of E.Block.Block.arith self.now.kind (E.Engine.means engine.old) self.now.bits self.now.message.now }
+    {
+        match self.kind {
+            Kind::Pmac => Some(pmac::full_tag(engine, self.message, self.bits).ok()?.tag),
+            Kind::Block if self.message.len() == E::Block::size() => engine
+                .encipher(E::Block::read(self.message))
+                .ok(),
+            Kind::Block => None,
+        }
     }
 }

@@ -10,25 +10,25 @@ use std::io::Read;
 const INPUT_BYTES: u64 = 65_553;
 
 // The text for the arguments behind the program's name.
-fn text(heap: Global, args: &[String], input: &[u8]) -> Result<String, AllocError> {
+fn text(alloc: Global, args: &[String], input: &[u8]) -> Result<String, AllocError> {
     match args {
-        [] => report::engine_names(heap),
-        [name] => report::seal_input(heap, name.as_str(), input),
+        [] => report::engine_names(alloc),
+        [name] => report::seal_input(alloc, name.as_str(), input),
         [name, flag, digits] if flag.as_str() == "--key" => report::seal_key(
-            heap,
+            alloc,
             name.as_str(),
             digits.as_str(),
             input,
         ),
-        _ => String::from_str(heap, "usage: seal ENGINE [--key HEX]\n"),
+        _ => String::from_str(alloc, "usage: seal ENGINE [--key HEX]\n"),
     }
 }
 
 fn main(rt: HostRuntime) -> anyhow::Result<()> {
-    let heap = rt.alloc();
-    let args: Vec<String> = env::args(&rt)?.skip(1).collect(heap)?;
-    let mut input = Vec::new(heap);
+    let alloc = rt.alloc();
+    let args: Vec<String> = env::args(&rt)?.skip(1).collect(alloc)?;
+    let mut input = Vec::new(alloc);
     rt.stdin().take(INPUT_BYTES).read_to_end(&mut input)?;
-    rt.print(text(heap, &args, &input)?)?;
+    rt.print(text(alloc, &args, &input)?)?;
     Ok(())
 }

@@ -1,72 +1,87 @@
 // The calls as they are written, a line each.
+use report::unhex;
+use std::alloc::{AllocError, Global};
+use std::num::ParseIntError;
 
 // What a line asks for.
 #[derive(Clone, Copy)]
 pub(crate) enum Command<'a> {
     // `add HEX [BITS]`
-    Add {
-        hex: &'a str,
-        bits: Option<u32>,
-    },
+    Add(Edit<'a>),
     // `cut BITS`
-    Cut {
-        bits: u32,
-    },
+    Cut { bits: u32 },
     // `put POSITION HEX [BITS]`
-    Put {
-        position: u32,
-        hex: &'a str,
-        bits: Option<u32>,
-    },
+    Put { position: u32, edit: Edit<'a> },
     // `tag BITS`
-    Tag {
-        bits: u32,
-    },
+    Tag { bits: u32 },
     // `book SLIP ACCOUNT`
-    Book {
-        slip: usize,
-        account: u8,
-    },
+    Book { slip: usize, account: u8 },
 }
 
-// The command in a line; none where a word is missing, is too much or is not what it should be.
-pub(crate) fn command_of(line: &str) -> Option<Command<'_>> {
-    let mut words = line.split_whitespace();
-    let name = words.next()?;
-    let first = words.next()?;
-    let second = words.next();
-    let third = words.next();
-    if words.next().is_some() {
-        return None;
+// The bits that a call writes, as hex, and how many of them where that is written.
+#[derive(Clone, Copy)]
+pub(crate) struct Edit<'a> {
+    hex: &'a str,
+    bits: Option<u32>,
+}
+
+// A word is missing, is too much or is not what it should be.
+#[derive(Clone, Copy)]
+pub(crate) struct BadLine;
+
+impl From<ParseIntError> for BadLine {
+    fn from(_: ParseIntError) -> Self {
+        BadLine
     }
-    match (name, second, third) {
-        ("add", bits, None) => Some(Command::Add {
-            hex: first,
-            bits: count_of(bits)?,
-        }),
-        ("cut", None, None) => Some(Command::Cut {
-            bits: first.parse().ok()?,
-        }),
-        ("put", Some(hex), bits) => Some(Command::Put {
-            position: first.parse().ok()?,
+}
+
+impl<'a> TryFrom<&'a str> for Command<'a> {
+    type Error = BadLine;
+
+    fn try_from(line: &'a str) -> Result<Self, BadLine> {
+        let mut words = line.split_whitespace();
+        let name = words.next().ok_or(BadLine)?;
+        let first = words.next().ok_or(BadLine)?;
+        match (name, words.next(), words.next(), words.next()) {
+            ("add", bits, None, None) => Ok(Command::Add(Edit::try_from((first, bits))?)),
+            ("cut", None, None, None) => Ok(Command::Cut {
+                bits: first.parse()?,
+            }),
+            ("put", Some(hex), bits, None) => Ok(Command::Put {
+                position: first.parse()?,
+                edit: Edit::try_from((hex, bits))?,
+            }),
+            ("tag", None, None, None) => Ok(Command::Tag {
+                bits: first.parse()?,
+            }),
+            ("book", Some(account), None, None) => Ok(Command::Book {
+                slip: first.parse()?,
+                account: account.parse()?,
+            }),
+            _ => Err(BadLine),
+        }
+    }
+}
+
+impl<'a> TryFrom<(&'a str, Option<&str>)> for Edit<'a> {
+    type Error = BadLine;
+
+    fn try_from((hex, bits): (&'a str, Option<&str>)) -> Result<Self, BadLine> {
+        Ok(Edit {
             hex,
-            bits: count_of(bits)?,
-        }),
-        ("tag", None, None) => Some(Command::Tag {
-            bits: first.parse().ok()?,
-        }),
-        ("book", Some(account), None) => Some(Command::Book {
-            slip: first.parse().ok()?,
-            account: account.parse().ok()?,
-        }),
-        _ => None,
+            bits: bits.map(|bits| bits.parse()).transpose()?,
+        })
     }
 }
 
-// A number of bits, if one is written.
-fn count_of(word: Option<&str>) -> Option<Option<u32>> {
-    match word {
-        Some(word) => Some(Some(word.parse().ok()?)),
-        None => Some(None),
+impl Edit<'_> {
+    // The bytes, if the hex spells any.
+    pub(crate) fn bytes(&self, alloc: Global) -> Result<Option<Vec<u8>>, AllocError> {
+        unhex(alloc, self.hex)
+    }
+
+    // As many bits as are written, or else all of the bytes.
+    pub(crate) fn count(&self, bytes: &[u8]) -> u32 {
+        self.bits.unwrap_or(u32::try_from(bytes.len().saturating_mul(8)).unwrap_or(u32::MAX))
     }
 }

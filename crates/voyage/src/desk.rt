@@ -1,12 +1,13 @@
 // The overlay of one voyage, with its memory, the accounts and the slips that its calls gave.
-ghost use Rattle.std.specs.Prelude.{◌≡◌, vec_len};
+ghost use Rattle.std.specs.Prelude.{◌≡◌};
 
-use crate::command::Command;
+use crate::command::{Command, Edit};
+use crate::shown::{Call, Shown};
 use aes::Aes128;
-use engine::{Engine, EngineFault, Numbered};
-use overlay::{Answer, Ledger, Open, OverlayFault, Slip};
-use report::{hex, unhex};
+use engine::Engine;
+use overlay::{Answer, Ledger, Open, Slip};
 use std::alloc::{AllocError, AllocFailed, Global};
+use std::fmt;
 
 // The account that slips left open are booked to at the end.
 const LAST_ACCOUNT: u8 = 15;
@@ -20,12 +21,12 @@ pub(crate) struct Desk {
 
 impl Desk {
     // An overlay just opened, and the slip that it came with.
-    pub(crate) fn new(heap: Global, overlay: Open<Aes128>, memory: Vec<u8>, slip: Slip) -> Self {
+    pub(crate) fn new(alloc: Global, overlay: Open<Aes128>, memory: Vec<u8>, slip: Slip) -> Self {
         let mut desk = Desk {
             overlay,
             memory,
             ledger: Ledger::new(0),
-            slips: Vec::new(heap),
+            slips: Vec::new(alloc),
         };
         desk.keep(slip);
         desk
@@ -34,186 +35,155 @@ impl Desk {
     // Runs one command, and gives what is shown of it; none where it names a slip or bits that are not there.
     pub(crate) fn run(
         &mut self,
-        heap: Global,
+        alloc: Global,
         command: Command<'_>,
-    ) -> Result<Option<String>, AllocError> {
+    ) -> Result<Option<Shown>, AllocError> {
         match command {
-            Command::Add { hex, bits } => self.add(heap, hex, bits),
+            Command::Add(edit) => self.edit(
+                alloc,
+                "add",
+                edit,
+                |overlay, memory, bytes, count| overlay.add(memory, bytes, count),
+            ),
             Command::Cut { bits } => {
                 let answer = self.overlay.cut(&self.memory, bits);
-                Ok(Some(self.shown(heap, "cut", answer)?))
+                Ok(Some(Shown::Call(self.note("cut", answer))))
             }
-            Command::Put {
-                position,
-                hex,
-                bits,
-            } => self.put(heap, position, hex, bits),
-            Command::Tag { bits } => Ok(Some(self.tag(heap, bits)?)),
-            Command::Book { slip, account } => self.book(heap, slip, account),
+            Command::Put { position, edit } => self.edit(
+                alloc,
+                "put",
+                edit,
+                |overlay, memory, bytes, count| overlay.put(memory, position, bytes, count),
+            ),
+            Command::Tag { bits } => Ok(Some(Shown::Call(self.tag(alloc, bits)?))),
+            Command::Book { slip, account } => Ok(self.book(slip, account)),
         }
     }
 
-    fn add(
+    // Runs a call that writes bits, if the hex spells any.
+    fn edit<F: FnOnce(&mut Open<Aes128>, &mut [u8], &[u8], u32) -> Answer + Drop>(
         &mut self,
-        heap: Global,
-        text: &str,
-        bits: Option<u32>,
-    ) -> Result<Option<String>, AllocError> {
-        let Some(edit) = unhex(heap, text)? else {
+        alloc: Global,
+        name: &'static str,
+        edit: Edit<'_>,
+        call: F,
+    ) -> Result<Option<Shown>, AllocError>
+        requires { F.IsAlwaysCallable call }
+    {
+        let Some(bytes) = edit.bytes(alloc)? else {
             return Ok(None);
         };
-        let answer = self
-            .overlay
-            .add(&mut self.memory, &edit, count_of(bits, &edit));
-        Ok(Some(self.shown(heap, "add", answer)?))
-    }
-
-    fn put(
-        &mut self,
-        heap: Global,
-        position: u32,
-        text: &str,
-        bits: Option<u32>,
-    ) -> Result<Option<String>, AllocError> {
-        let Some(edit) = unhex(heap, text)? else {
-            return Ok(None);
-        };
-        let answer = self
-            .overlay
-            .put(&mut self.memory, position, &edit, count_of(bits, &edit));
-        Ok(Some(self.shown(heap, "put", answer)?))
+        let count = edit.count(&bytes);
+        let answer = call(&mut self.overlay, &mut self.memory, &bytes, count);
+        Ok(Some(Shown::Call(self.note(name, answer))))
     }
 
     // A length that is no whole number of bytes is asked for as none, and refused.
-    fn tag(&mut self, heap: Global, bits: u32) -> Result<String, AllocError> {
-        let mut buffer = [0u8; 16];
+    fn tag(&mut self, alloc: Global, bits: u32) -> Result<Call, AllocError> {
         let size = if bits % 8 == 0 && bits <= 128 {
             bits as usize / 8
         } else {
             0
         };
-        let tag = &mut buffer[..size];
-        let answer = self.overlay.tag(&self.memory, tag);
-        let carried = answer.outcome.is_ok();
-        let text = self.shown(heap, "tag", answer)?;
-        if !carried {
-            return Ok(text);
+        let mut tag = vec![in alloc; 0u8; size]?;
+        let answer = self.overlay.tag(&self.memory, &mut tag);
+        let mut call = self.note("tag", answer);
+        if call.outcome.is_ok() {
+            call.tag = Some(hex::encode(alloc, tag)?);
         }
-        let digits = hex(heap, tag)?;
-        format!(in heap; "{text} {digits}")
+        Ok(call)
     }
 
-    fn book(
-        &mut self,
-        heap: Global,
-        slip: usize,
-        account: u8,
-    ) -> Result<Option<String>, AllocError> {
-        if slip >= self.slips.len() {
-            return Ok(None);
-        }
-        let number = match self.ledger.book(&mut self.slips[slip], account) {
-            Ok(()) => 0,
-            Err(fault) => fault.number(),
-        };
-        Ok(Some(format!(in heap; "book {number}")?))
+    fn book(&mut self, slip: usize, account: u8) -> Option<Shown> {
+        let slip = self.slips.get_mut(slip)?;
+        Some(Shown::Booking(self.ledger.book(slip, account)))
     }
 
-    // What is shown of a call: its name, number and told values, bits, operations and the number of its slip, which is kept.
-    fn shown(&mut self, heap: Global, name: &str, answer: Answer) -> Result<String, AllocError> {
+    // What is shown of a call, whose slip is kept.
+    fn note(&mut self, name: &'static str, answer: Answer) -> Call {
         let Answer { outcome, slip } = answer;
-        let operations = slip.shows();
-        let place = self.slips.len();
+        let call = Call {
+            name,
+            outcome,
+            bits: self.overlay.bits(),
+            operations: slip.shows(),
+            slip: self.slips.len(),
+            tag: None,
+        };
         self.keep(slip);
-        let bits = self.overlay.bits();
-        match outcome {
-            Ok(()) => format!(in heap; "{name} 0 {bits} {operations} {place}"),
-            Err(OverlayFault::Engine(EngineFault::Spent { due, left })) => format!(in heap;
-                "{name} 8 (due {due}, left {left}) {bits} {operations} {place}"
-            ),
-            Err(fault) => {
-                let number = fault.number();
-                format!(in heap; "{name} {number} {bits} {operations} {place}")
-            }
-        }
+        call
     }
 
     // Keeps a slip until it is booked; where there is no memory for it, it is booked at once.
     fn keep(&mut self, slip: Slip) {
-        match self.slips.push(slip) {
-            Ok(()) => {}
-            Err(AllocFailed { value, .. }) => settle(&mut self.ledger, value),
+        if let Err(AllocFailed { value, .. }) = self.slips.push(slip) {
+            settle(&mut self.ledger, value);
         }
     }
 
     // The slips that still show operations, a line each.
-    pub(crate) fn open_slips(&self, heap: Global) -> Result<String, AllocError> {
-        let mut text = String::new(heap);
-        for i in 0..self.slips.len() {
-            let shows = self.slips[i].shows();
+    pub(crate) fn open_slips(&self, alloc: Global) -> Result<String, AllocError> {
+        let mut text = String::new(alloc);
+        for (place, slip) in self.slips.iter().enumerate() {
+            let shows = slip.shows();
             if shows > 0 {
-                text.push_str(format!(in heap;
-                    "slip {i} shows {shows}: booked to account 15\n"
-                )?.as_str())?;
+                writeln!(
+                    text,
+                    "slip {place} shows {shows}: booked to account {LAST_ACCOUNT}"
+                )?;
             }
         }
         Ok(text)
     }
 
-    // Books every slip to the last account.
-    pub(crate) fn settle_all(&mut self)
-        ensures { vec_len self.new.slips ≡ 0 }
-    {
-        while let Some(slip) = self.slips.pop() {
-            settle(&mut self.ledger, slip);
-        }
-    }
-
-    // The totals of all accounts, their sum, and what is left.
-    pub(crate) fn balance(&self, heap: Global) -> Result<String, AllocError> {
-        let mut text = String::from_str(heap, "totals")?;
-        let mut booked: u64 = 0;
-        for number in 0..16u8 {
-            if let Some(account) = self.ledger.account(number) {
-                let total = account.total();
-                booked = booked.saturating_add(u64::from(total));
-                text.push_str(format!(in heap; " {total}")?.as_str())?;
-            }
-        }
-        let left = self.overlay.left();
-        format!(in heap; "{text}\nbooked {booked}, left {left}\n")
-    }
-
-    pub(crate) fn end(self) {
+    // Books every slip to the last account, which ends the voyage.
+    pub(crate) fn settle(self) -> Settled {
         let Desk {
-            overlay: _,
+            overlay,
             memory: _,
             mut ledger,
             mut slips,
         } = self;
+        // No `for` here: one that stopped would have to let the other slips go, and a slip goes only once it is booked.
         while let Some(slip) = slips.pop() {
             settle(&mut ledger, slip);
         }
         slips.destroy_empty();
+        Settled {
+            ledger,
+            left: overlay.left(),
+        }
     }
 }
 
-// As many bits as are written, or else all that are handed in.
-fn count_of(bits: Option<u32>, edit: &Vec<u8>) -> u32 {
-    match bits {
-        Some(bits) => bits,
-        None => u32::try_from(edit.len().saturating_mul(8)).unwrap_or(u32::MAX),
+// A voyage that has ended: the accounts, and the operations that are left.
+#[derive(Drop)]
+pub(crate) struct Settled {
+    ledger: Ledger,
+    left: u32,
+}
+
+// The totals of all accounts, their sum, and what is left.
+impl fmt::Display for Settled {
+    fn fmt<W: fmt::Write>(&self, f: &mut fmt::Formatter<W>) -> fmt::Result {
+        write!(f, "totals")?;
+        let mut booked: u64 = 0;
+        for number in 0..=LAST_ACCOUNT {
+            if let Some(account) = self.ledger.account(number) {
+                let total = account.total();
+                booked = booked.saturating_add(u64::from(total));
+                write!(f, " {total}")?;
+            }
+        }
+        let left = self.left;
+        writeln!(f, "\nbooked {booked}, left {left}")
     }
 }
 
 // Ends a slip: its operations go to the last account.
-pub(crate) fn settle(ledger: &mut Ledger, slip: Slip) {
-    let mut slip = slip;
-    match ledger.book(&mut slip, LAST_ACCOUNT) {
-        Ok(()) => {}
-        Err(_) => {
-            let _ = write_off(&mut slip);
-        }
+pub(crate) fn settle(ledger: &mut Ledger, mut slip: Slip) {
+    if ledger.book(&mut slip, LAST_ACCOUNT).is_err() {
+        let _ = write_off(&mut slip);
     }
 }
 

@@ -4,13 +4,14 @@
 
 mod command;
 mod desk;
+mod shown;
 
 use aes::Aes128;
-use command::command_of;
+use command::Command;
 use desk::{Desk, settle};
 use engine::{Keyed, Numbered};
 use keys::key_from;
-use overlay::{Ledger, Open, Opened};
+use overlay::{Answer, Ledger, Open};
 use std::alloc::{AllocError, Global};
 use std::io::Read;
 
@@ -24,75 +25,74 @@ const MEMORY_BYTES: usize = 65_536;
 const INPUT_BYTES: u64 = 16_777_216;
 
 // What is shown of the calls in all lines but the first.
-fn run_lines(heap: Global, desk: &mut Desk, input: &str) -> Result<String, AllocError> {
-    let mut text = String::new(heap);
+fn run_lines(alloc: Global, desk: &mut Desk, input: &str) -> Result<String, AllocError> {
+    let mut text = String::new(alloc);
     for (i, line) in input.lines().enumerate().skip(1) {
-        let shown = match command_of(line) {
-            Some(command) => desk.run(heap, command)?,
-            None => None,
+        let shown = match Command::try_from(line) {
+            Ok(command) => desk.run(alloc, command)?,
+            Err(_) => None,
         };
         let number = i.saturating_add(1);
-        let row = match shown {
-            Some(shown) => format!(in heap; "{number} {shown}\n")?,
-            None => format!(in heap; "{number} bad line\n")?,
-        };
-        text.push_str(row.as_str())?;
+        match shown {
+            Some(shown) => writeln!(text, "{number} {shown}")?,
+            None => writeln!(text, "{number} bad line")?,
+        }
     }
     Ok(text)
 }
 
 // Opens an overlay under a key, and runs the calls.
-fn voyage(heap: Global, key: &[u8], input: &str) -> Result<String, AllocError> {
-    let Ok(engine) = Aes128::new(key, ALLOWANCE) else {
-        return String::from_str(heap, "1 key 1\n");
+fn voyage(alloc: Global, key: &[u8], input: &str) -> Result<String, AllocError> {
+    let engine = match Aes128::new(key, ALLOWANCE) {
+        Ok(engine) => engine,
+        Err(fault) => return bad_key(alloc, fault),
     };
-    let memory = vec![in heap; 0u8; MEMORY_BYTES]?;
-    let Opened { outcome, slip } = Open::new(engine, &memory);
+    let memory = vec![in alloc; 0u8; MEMORY_BYTES]?;
+    let Answer { outcome, slip } = Open::new(engine, &memory);
     match outcome {
-        Ok(overlay) => sail(heap, Desk::new(heap, overlay, memory, slip), input),
+        Ok(overlay) => sail(alloc, Desk::new(alloc, overlay, memory, slip), input),
         Err(refused) => {
             settle(&mut Ledger::new(0), slip);
             let number = refused.fault.number();
-            format!(in heap; "1 open {number}\n")
+            format!(in alloc; "1 open {number}\n")
         }
     }
 }
 
 // All calls, the slips that they leave open, and the balance.
-fn sail(heap: Global, desk: Desk, input: &str) -> Result<String, AllocError> {
-    let mut desk = desk;
-    let calls = run_lines(heap, &mut desk, input);
-    let open = desk.open_slips(heap);
-    desk.settle_all();
-    let balance = desk.balance(heap);
-    desk.end();
+fn sail(alloc: Global, mut desk: Desk, input: &str) -> Result<String, AllocError> {
+    let calls = run_lines(alloc, &mut desk, input);
+    let open = desk.open_slips(alloc);
+    let balance = desk.settle();
     let calls = calls?;
     let open = open?;
-    let balance = balance?;
-    format!(in heap;
+    format!(in alloc;
         "line call number bits operations slip tag\n1 open 0 0 1 0\n{calls}{open}{balance}"
     )
 }
 
+// What is shown for a key that is refused.
+fn bad_key<F: Numbered>(alloc: Global, fault: F) -> Result<String, AllocError> {
+    let number = fault.number();
+    format!(in alloc; "1 key {number}\n")
+}
+
 // What is shown of a whole input.
-fn shown(heap: Global, input: &str) -> Result<String, AllocError> {
+fn text_of(alloc: Global, input: &str) -> Result<String, AllocError> {
     let first = input.lines().next().unwrap_or("");
     let Some(digits) = first.strip_prefix("key ") else {
-        return String::from_str(heap, "1 bad line\n");
+        return String::from_str(alloc, "1 bad line\n");
     };
     match key_from(digits) {
-        Ok(key) => voyage(heap, &key, input),
-        Err(fault) => {
-            let number = fault.number();
-            format!(in heap; "1 key {number}\n")
-        }
+        Ok(key) => voyage(alloc, &key, input),
+        Err(fault) => bad_key(alloc, fault),
     }
 }
 
 fn main(rt: HostRuntime) -> anyhow::Result<()> {
-    let heap = rt.alloc();
-    let mut input = String::new(heap);
+    let alloc = rt.alloc();
+    let mut input = String::new(alloc);
     rt.stdin().take(INPUT_BYTES).read_to_string(&mut input)?;
-    rt.print(shown(heap, input.as_str())?)?;
+    rt.print(text_of(alloc, input.as_str())?)?;
     Ok(())
 }

@@ -3,15 +3,15 @@ use Rattle.overlay.specs.Views.{world, seen}
 use Rattle.bench.proofs.Kept.{replaced, tagged}
 use Rattle.bench.proofs.calls.put_round.Goals as goal
 
-pub returns-then-not-carried : goal.returns-then-not-carried
-returns-then-not-carried g c =
+pub returns-in_err-carried : goal.returns-in_err-carried
+returns-in_err-carried g c =
     let w = world g.E.Engine.means c.loop-i.opened c.loop-i.memory [] in
     let a = seen c.put.result (world g.E.Engine.means c.put.new.self c.put.new.memory []) in
     let k = replaced g.E.Block.Block.arith w _ _ _ a c.put.ensures.after c.put.ensures.law c.loop-i.invariant.0 in
     record { kept = k.0; same = k.1 ∙ c.loop-i.invariant.1 }
 
-pub returns-then-not-carried-2 : goal.returns-then-not-carried-2
-returns-then-not-carried-2 g c =
+pub returns-in_err-carried-2 : goal.returns-in_err-carried-2
+returns-in_err-carried-2 g c =
     let w = world g.E.Engine.means c.loop-i.opened c.loop-i.memory [] in
     let a = seen c.put.result (world g.E.Engine.means c.put.new.self c.put.new.memory []) in
     let k = replaced g.E.Block.Block.arith w _ _ _ a c.put.ensures.after c.put.ensures.law c.loop-i.invariant.0 in
