@@ -1,24 +1,19 @@
 -- A memory's whole blocks. Assumes nothing.
-use Rattle.std.proofs.Common.{◌≡◌, ℕ, ◌+◌, ◌-◌, ◌*◌, ◌/◌, ◌<◌, ◌≤◌, Bool, true, false, cond, ltb, List, take, drop, Some, Ok, Err, IfOk, IfSome, Option, Result, sym, ap, ◌∙◌, ap₂, le_refl, subst, add-one, arith}
+use Rattle.std.proofs.Common.{◌≡◌, ℕ, suc, ◌+◌, ◌*◌, ◌/◌, ◌<◌, ◌≤◌, Bool, true, false, cond, ltb, List, Some, Ok, Err, IfOk, IfSome, Option, Result, sym, ap, ◌∙◌, ap₂, le_refl, subst, suc-mul, add-one, arith}
 use Rattle.std.proofs.lemmas.Nat.{mul-le, div-add-mod'}
 use Rattle.std.specs.Result.{result_ok}
 use Rattle.engine.specs.Meaning.{answered}
 use Rattle.engine.specs.declared.fault.EngineFault.{EngineFault}
 use Rattle.engine.specs.declared.fault.EngineFault.TheVariants.{Spent}
-use Rattle.block.specs.Arith.{Arith, from_bytes}
-use Rattle.bits.specs.Memory.{held}
+use Rattle.block.specs.Arith.{Arith}
 use Rattle.bench.specs.Sums.{block_at, summed}
 
 -- block i ends within
-pub within : (n size i : ℕ) → i < n / size → (i + 1) * size ≤ n
-within n size i h =
-    let up : (i + 1) * size ≤ n / size * size = mul-le (i + 1) size (n / size) size (omega arith) (le_refl size) in
-    omega (arith, div-add-mod' n size)
-
--- block i, which `bits` counts from 1
-pub held_is : {B : Type 0} (A : Arith B) (memory : List ℕ) (i : ℕ) → held A memory (i + 1) ≡ block_at A memory i
-unfolding held
-held_is A memory i = let e : i + 1 - 1 ≡ i = omega arith in ap (λ k. from_bytes A (take A.size (drop (k * A.size) memory))) e
+pub within : (n s size i : ℕ) → s ≡ size → i < n / size → i * s + s ≤ n
+within n s size i e h =
+    let h' : i < n / s = rw e h in
+    let up : suc i * s ≤ n / s * s = mul-le (suc i) s (n / s) s h' (le_refl s) in
+    omega (arith, div-add-mod' n s, suc-mul i s)
 
 -- what an operation that was carried out gave
 pub given : {B : Type 0} (left : ℕ) (y v : B) → Ok y ≡ answered left v → y ≡ v

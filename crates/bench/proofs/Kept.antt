@@ -1,12 +1,13 @@
 -- What calls of an open overlay keep, whether they are carried out or refused. Assumes nothing.
-use Rattle.std.proofs.Common.{◌≡◌, ℕ, Bool, ltb, List, [], ◌∷◌, take, sym, refl, ap, ◌∙◌, subst, arith, take_all}
-use Rattle.std.proofs.lemmas.Bool.{cond_both}
+use Rattle.std.proofs.Common.{◌≡◌, ℕ, Bool, List, length, take, sym, refl, ap, ◌∙◌, subst, arith, take_all}
 use Rattle.block.specs.Arith.{Arith, from_bytes, to_bytes}
 use Rattle.block.specs.Blocks.{Block128, arith128}
 use Rattle.block.specs.BitsLemmas.{length_bytes_of}
 use Rattle.block.specs.Laws.{bytes_read_back}
 use Rattle.block.specs.Same.{laws128}
-use Rattle.overlay.specs.Calls.{State, World, After, judged, add, add_tests, add_done, put, put_tests, put_done, tag, tag_tests, tag_done}
+use Rattle.overlay.specs.Judging.{decided, add_conditions, put_conditions, tag_conditions}
+use Rattle.overlay.specs.Calls.{State, World, After, sent, did, add, add_done, put, put_done, tag, tag_done}
+use Rattle.overlay.proofs.Laws.{decided_by}
 use Rattle.overlay.specs.Laws.{Stands, Edits, Adds, Puts, Tags}
 use Rattle.bench.specs.Calls.{Keeps}
 
@@ -23,10 +24,9 @@ module _ {B : Type 0} (A : Arith B) where
   abbrev Same : World (State B) → After (State B) → Type 0
   Same w a = a.world.state.engine.enc ≡ w.state.engine.enc
 
-  judged_same : (left : ℕ) (w : World (State B)) (ts : List (Bool × ℕ)) (due : ℕ) (done : World (State B)) → done.state.engine.enc ≡ w.state.engine.enc
-      → Same w (judged left w ts due done)
-  judged_same left w [] due done e = cond_both (ltb left due) _ _ (Same w) (λ _. refl) (λ _. e)
-  judged_same left w (t ∷ ts) due done e = cond_both t.0 _ _ (Same w) (λ _. refl) (λ _. judged_same left w ts due done e)
+  decided_same : (w : World (State B)) (ts : List (Bool × ℕ)) (due : ℕ) (done : World (State B)) → done.state.engine.enc ≡ w.state.engine.enc
+      → Same w (decided (sent w) w.state.engine.left ts due (did due done))
+  decided_same w ts due done e = decided_by (Same w) (sent w) w.state.engine.left ts due (did due done) (λ _. refl) (λ _ _. e)
 
   abbrev Keeping : World (State B) → After (State B) → Type 0
   Keeping w a = (Keeps A a.world.state a.world.memory) × (Same w a)
@@ -34,19 +34,19 @@ module _ {B : Type 0} (A : Arith B) where
   pub added : (w : World (State B)) (edit : List ℕ) (n : ℕ) (a : After (State B)) → a ≡ add A w edit n → Adds A w edit n a → Keeps A w.state w.memory → Keeping w a
   added w edit n a e law h = (
     edited _ _ w a law h,
-    ap (λ (x : After (State B)). x.world.state.engine.enc) e ∙ judged_same _ w (add_tests A w edit n) _ (add_done A w edit n) refl,
+    ap (λ (x : After (State B)). x.world.state.engine.enc) e ∙ decided_same w (add_conditions (length w.memory) w.state.bits (length edit) n) _ (add_done A w edit n) refl,
   )
 
   pub replaced : (w : World (State B)) (pos : ℕ) (edit : List ℕ) (n : ℕ) (a : After (State B)) → a ≡ put A w pos edit n → Puts A w pos edit n a → Keeps A w.state w.memory → Keeping w a
   replaced w pos edit n a e law h = (
     edited _ _ w a law h,
-    ap (λ (x : After (State B)). x.world.state.engine.enc) e ∙ judged_same _ w (put_tests A w pos edit n) _ (put_done A w pos edit n) refl,
+    ap (λ (x : After (State B)). x.world.state.engine.enc) e ∙ decided_same w (put_conditions (length w.memory) w.state.bits pos (length edit) n) _ (put_done A w pos edit n) refl,
   )
 
   pub tagged : (w : World (State B)) (a : After (State B)) → a ≡ tag A w → Tags A w a → Keeps A w.state w.memory → Keeping w a
   tagged w a e law h = (
     edited _ _ w a law.edits h,
-    ap (λ (x : After (State B)). x.world.state.engine.enc) e ∙ judged_same _ w (tag_tests A w) _ (tag_done A w) refl,
+    ap (λ (x : After (State B)). x.world.state.engine.enc) e ∙ decided_same w (tag_conditions A (length w.memory) w.state.bits (length w.buffer)) _ (tag_done A w) refl,
   )
 
 -- a tag of a whole block reads back

@@ -1,10 +1,20 @@
 // Sums of a memory's whole blocks, under any engine.
-ghost use Rattle.std.specs.Prelude.{◌≡◌, IfOk};
-ghost use Rattle.bench.specs.Sums.{IsWay, total};
+ghost use Rattle.std.specs.Prelude.{◌≡◌, ◌/◌, ◌<◌, length, IfOk};
+ghost use Rattle.bench.specs.Sums.{IsWay, block_at, total};
 ghost use Rattle.engine.specs.Meaning.{Meaning};
 
 use block::Block;
 use engine::{Engine, EngineFault};
+
+// Block `i` of a memory of any size, counted from 0.
+fn block_at<B: Block>(memory: &[u8], i: usize) -> B
+    requires { i < length memory.now / B.Block.arith.size }
+    ensures { result ≡ block_at B.Block.arith memory.now i }
+{
+    let size = B::size();
+    let start = i * size;
+    B::read(&memory[start..start + size])
+}
 
 // The sum of what one way through an engine, enciphering or deciphering, makes of the blocks of `memory`.
 pub(crate) fn sum_of<E: Engine, W: Fn(&mut E, E::Block) -> Result<E::Block, EngineFault>>(
@@ -17,8 +27,7 @@ pub(crate) fn sum_of<E: Engine, W: Fn(&mut E, E::Block) -> Result<E::Block, Engi
 {
     let mut sum = E::Block::zero();
     for i in 0..memory.len() / E::Block::size() {
-        let block = bits::block_at(memory, i + 1);
-        sum = sum.xor(way(engine, block)?);
+        sum = sum.xor(way(engine, block_at(memory, i))?);
     }
     Ok(sum)
 }

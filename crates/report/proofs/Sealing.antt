@@ -93,7 +93,7 @@ module _ {B : Type 0} {A : Arith B} (w : arithmetic.Laws A) where
           let is : r.number ≡ 8 = ap start_number (e ∙ cond-false _ _ _ (fits memory 0 small (omega arith)) ∙ cond-true _ _ _ (lt-ltb m.left 1 h)) in
           ap stopped is ∙ sealing_stops m message _ (omega arith)
       by (inr h) =
-          let q : back n r slip ≡ made (record { bits = 0; l = m.enc A.zero; sum = A.zero; engine = spent 1 m }) 1 =
+          let q : ◌≡◌ {A = Made (State B) (Meaning B)} (back n r slip) (made (record { bits = 0; l = m.enc A.zero; sum = A.zero; engine = spent 1 m }) 1) =
           e ∙ cond-false _ _ _ (fits memory 0 small (omega arith)) ∙ cond-false _ _ _ (le-ltb m.left 1 h) in
           cc
 

@@ -1,12 +1,7 @@
-use Rattle.std.proofs.Common.{◌<◌, ◌/◌, length, sym, refl, ◌∙◌, rules}
+use Rattle.std.proofs.Common.{sym, refl, ◌∙◌}
 use Rattle.bench.specs.Sums.{summed}
-use Rattle.bench.proofs.Blocks.{within, held_is, given, more}
+use Rattle.bench.proofs.Blocks.{given, more}
 use Rattle.bench.proofs.sums.sum_of.Goals as goal
-
-pub block_at-block-requires-clause-inside : goal.block_at-block-requires-clause-inside
-block_at-block-requires-clause-inside g c =
-    let h : c.loop-i.i < length c.args.memory.now / g.E.Block.Block.arith.size = search rules in
-    within (length c.args.memory.now) g.E.Block.Block.arith.size c.loop-i.i h
 
 pub loop-i-init : goal.loop-i-init
 unfolding summed
@@ -18,5 +13,5 @@ loop-i-preserved g c = λ f way.
     let step = way _ _ _ _ c.way.ensures in (
       step.1 ∙ kept.0,
       more g.E.Block.Block.arith _ _ c.args.memory.now c.loop-i.i c.loop-i.sum c.xor-sum.result _ c.in_ok-way.field-0 kept.0 kept.1
-          (c.block_at-block.ensures ∙ held_is g.E.Block.Block.arith c.args.memory.now c.loop-i.i) (given _ _ _ (sym c.in_ok-way.was ∙ step.0)) c.xor-sum.ensures,
+          c.block_at.ensures (given _ _ _ (sym c.in_ok-way.was ∙ step.0)) c.xor-sum.ensures,
     )
