@@ -37,6 +37,7 @@ impl<'a> Bits<'a> {
         ensures test { is_some result ≡ not (unfit memory.now len) }
         ensures memory { IfSome result (λ bits. bits.memory.now ≡ memory.now) }
         ensures len { IfSome result (λ bits. bits.len ≡ len) }
+        ensures small { IfSome result (λ bits. length bits.memory.now ≤ 65536) }
     {
         if memory.len() <= MEMORY_BYTES && len <= 8 * memory.len() {
             Some(Bits { memory, len })

@@ -62,7 +62,7 @@ impl<E: Engine> Received<E> {
     {
         let bits = judge::fit(memory, self.bits)?;
         judge::tag_length::<E::Block>(tag.len())?;
-        let due = pmac::due::<E::Block>(bits);
+        let due = pmac::due::<E::Block>(bits.len);
         engine::afford(&self.engine, due)?;
         let sealed = pmac::sealed_bits(&mut self.engine, bits)?;
         let mut worked = [0u8; 16];
@@ -90,7 +90,7 @@ impl<E: Engine> Received<E> {
         let bits = judge::fit(memory, self.bits)?;
         judge::full_length::<E::Block>(tag.len())?;
         judge::whole_block::<E::Block>(self.bits, number)?;
-        let due = pmac::due::<E::Block>(bits);
+        let due = pmac::due::<E::Block>(bits.len);
         engine::afford(&self.engine, due)?;
         let full = E::Block::read(tag);
         let lost = pmac::lost_block(&mut self.engine, bits, full, number as usize)?;

@@ -51,7 +51,7 @@ pub fn full_tag<E: Engine>(
     ensures after { E.Engine.means engine.new ≡ spent (operations (outcome result)) (E.Engine.means engine.old) }
 {
     let bits = Bits::new(memory, bits).ok_or(TagFault::Memory)?;
-    let operations = seal::due::<E::Block>(bits);
+    let operations = seal::due::<E::Block>(bits.len);
     engine::afford(engine, operations)?;
     let SealedBits { tag, .. } = seal::sealed_bits(engine, bits)?;
     Ok(FullTag { tag, operations })

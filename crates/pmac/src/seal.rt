@@ -13,11 +13,12 @@ use block::Block;
 use engine::{Engine, EngineFault};
 use std::ops::Range;
 
-// The operations that the full tag of the bits takes.
-pub fn due<B: Block>(bits: Bits<'_>) -> u32
-    ensures { result ≡ blocks B.Block.arith bits.entry.len + 1 }
+// The operations that the full tag of `bits` bits takes.
+pub fn due<B: Block>(bits: usize) -> u32
+    requires { bits ≤ 524288 }
+    ensures { result ≡ blocks B.Block.arith bits + 1 }
 {
-    (bits::block_count::<B>(bits.len) + 1) as u32
+    (bits::block_count::<B>(bits) + 1) as u32
 }
 
 // What the last block of the bits adds to the sum.
