@@ -16,9 +16,8 @@ pub(crate) fn sum_of<E: Engine, W: Fn(&mut E, E::Block) -> Result<E::Block, Engi
     ensures { (f : Meaning E.Block → E.Block → E.Block) → IsWay E.Engine.means f W.Fn way → IfOk result (λ s. s ≡ total E.Block.Block.arith (f (E.Engine.means engine.old)) memory.now) }
 {
     let mut sum = E::Block::zero();
-    for i in 0..memory.len() / E::Block::size() {
-        let block = bits::block_at(memory, i + 1);
-        sum = sum.xor(way(engine, block)?);
+    for bytes in memory.chunks_exact(E::Block::size()) {
+        sum = sum.xor(way(engine, E::Block::read(bytes))?);
     }
     Ok(sum)
 }
