@@ -1,7 +1,7 @@
 -- Sums of blocks after a map. Assumes nothing.
 use Rattle.std.specs.Prelude.{◌≡◌, ℕ, zero, suc, ◌*◌, ◌/◌, ◌%◌, ◌^◌, List, length, take, drop, Some, None, Ok, Err, Option, Result, bit_xor}
 use Rattle.std.specs.Fn.{Shared}
-use denote.Ref.{MutBor}
+use Rattle.std.specs.Borrow.{MutBor}
 use Rattle.block.specs.Arith.{Arith, from_bytes}
 use Rattle.block.specs.Blocks.{Block64, Block128, arith64, arith128}
 use Rattle.engine.specs.Meaning.{Meaning, answered}

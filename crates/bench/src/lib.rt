@@ -9,7 +9,7 @@ ghost use Rattle.std.specs.Prelude.{◌≡◌, ◌*◌, length, IfSome};
 ghost use Rattle.aes.specs.Maps.{aes};
 ghost use Rattle.xtea.specs.Xtea.{made as xtea_of};
 ghost use Rattle.bench.specs.Calls.{standing128};
-ghost use Rattle.bench.specs.Sums.{IsWay, folded, enciphering, deciphering, total_under, tag_under, folded128, folded64, tag128, tag64};
+ghost use Rattle.bench.specs.Sums.{IsWay, folded, enciphering, deciphering, total_under, tag_under};
 ghost use Rattle.engine.specs.Meaning.{Meaning};
 ghost use Rattle.std.specs.Option.{option_map};
 ghost use Rattle.block.specs.Blocks.{arith64, arith128};

@@ -1,20 +1,10 @@
 // Sums of a memory's whole blocks, under any engine.
-ghost use Rattle.std.specs.Prelude.{◌≡◌, ◌/◌, ◌<◌, length, IfOk};
-ghost use Rattle.bench.specs.Sums.{IsWay, block_at, total};
+ghost use Rattle.std.specs.Prelude.{◌≡◌, IfOk};
+ghost use Rattle.bench.specs.Sums.{IsWay, total};
 ghost use Rattle.engine.specs.Meaning.{Meaning};
 
 use block::Block;
 use engine::{Engine, EngineFault};
-
-// Block `i` of a memory of any size, counted from 0.
-fn block_at<B: Block>(memory: &[u8], i: usize) -> B
-    requires { i < length memory.now / B.Block.arith.size }
-    ensures { result ≡ block_at B.Block.arith memory.now i }
-{
-    let size = B::size();
-    let start = i * size;
-    B::read(&memory[start..start + size])
-}
 
 // The sum of what one way through an engine, enciphering or deciphering, makes of the blocks of `memory`.
 pub(crate) fn sum_of<E: Engine, W: Fn(&mut E, E::Block) -> Result<E::Block, EngineFault>>(
@@ -26,8 +16,8 @@ pub(crate) fn sum_of<E: Engine, W: Fn(&mut E, E::Block) -> Result<E::Block, Engi
     ensures { (f : Meaning E.Block → E.Block → E.Block) → IsWay E.Engine.means f W.Fn way → IfOk result (λ s. s ≡ total E.Block.Block.arith (f (E.Engine.means engine.old)) memory.now) }
 {
     let mut sum = E::Block::zero();
-    for i in 0..memory.len() / E::Block::size() {
-        sum = sum.xor(way(engine, block_at(memory, i))?);
+    for bytes in memory.chunks_exact(E::Block::size()) {
+        sum = sum.xor(way(engine, E::Block::read(bytes))?);
     }
     Ok(sum)
 }

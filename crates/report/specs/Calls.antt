@@ -1,15 +1,12 @@
 -- What the three calls that seal a message come to: open, add and tag. Assumes nothing.
 use Rattle.std.specs.Prelude.{◌≡◌, ℕ, ◌*◌, ◌≤◌, true, cond, List, length, Ok, Err, Result, nat_lt}
 use Rattle.block.specs.Arith.{Arith, to_bytes}
-use Rattle.bits.specs.Blocks.{blocks}
 use Rattle.bits.specs.Memory.{standing}
 use Rattle.engine.specs.Meaning.{Meaning}
 use Rattle.pmac.specs.Pmac.{full}
 use Rattle.overlay.specs.declared.fault.OverlayFault.{OverlayFault}
 use Rattle.overlay.specs.Refusals.{Outcome, carried, refused, overlay_refusal}
 use Rattle.overlay.specs.Judging.{taggable}
-use Rattle.hex.specs.Hex.{encode_lower}
-use Rattle.report.specs.Seal.{tag_line, refusal_line}
 
 -- a tag's bytes and the operations on the slips, or the number of the first refusal
 pub data Came : Type 0 where
@@ -33,11 +30,6 @@ pub record Handed {B : Type 0} (A : Arith B) (memory message buffer : List ℕ) 
   pub tags : taggable A A.size ≡ true
 
 module _ {B : Type 0} (A : Arith B) where
-  -- the line for b bits
-  abbrev pub came_line : ℕ → Came → List ℕ
-  came_line b (tagged tag n) = tag_line b (blocks A b) n (encode_lower tag)
-  came_line b (stopped number) = refusal_line number
-
   -- the full tag of all of a message for a number of operations, or refusal 8 where fewer are left
   abbrev pub sealing : Meaning B → List ℕ → ℕ → Came
   sealing m message due = cond (nat_lt m.left due) (stopped 8) (tagged (to_bytes A (full A m.enc (standing (8 * length message) message))) due)

@@ -7,8 +7,8 @@ ghost use Rattle.overlay.specs.Judging.{taggable};
 ghost use Rattle.overlay.specs.Laws.{Stands};
 ghost use Rattle.overlay.specs.Ledger.{at};
 ghost use Rattle.overlay.specs.Views.{state};
-ghost use Rattle.report.specs.Calls.{Handed, came, came_line, sealing, tagged};
-ghost use Rattle.report.specs.Seal.{refusal_line, seal_of, seal_under, seal_by, under_header};
+ghost use Rattle.report.specs.Calls.{Handed, came, sealing};
+ghost use Rattle.report.specs.Seal.{tag_line, refusal_line, seal_of, seal_under, seal_by, under_header};
 ghost use Rattle.report.specs.Shown.{sealed_line, Prints};
 
 use crate::{Cipher, SealFault, engine_names};
@@ -145,7 +145,7 @@ fn sealed_of<B: Block>(
     tag: &[u8],
 ) -> Result<Sealed, AllocError>
     requires { len ≤ 65536 }
-    ensures { IfOk result (λ sealed. sealed_line sealed ≡ came_line B.Block.arith (8 * len) (tagged tag.now operations)) }
+    ensures { IfOk result (λ sealed. sealed_line sealed ≡ tag_line (8 * len) (blocks_of B.Block.arith (8 * len)) operations (encode_lower tag.now)) }
 {
     let bits = 8 * len;
     Ok(Sealed {
