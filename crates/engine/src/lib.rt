@@ -25,7 +25,8 @@ pub use mask::Mask;
 pub use metered::{Cipher, KeyedCipher, Metered};
 pub use pile::{Pile, pile_up};
 
-// A block cipher under one key, with a number of operations that it may still be asked for.
+// A block cipher under one key, with a number of operations that it may still be asked for. Its two ways are two methods: one
+// method that is told the way would choose again in each engine.
 pub trait Engine {
     type Block: Block;
 

@@ -131,7 +131,8 @@ fn move_on<E: Engine>(
 }
 
 // One call on an overlay, its memory, a ledger and the slips given so far, which stay with the caller; a slip that the call
-// gives is handed back beside them.
+// gives is handed back beside them. The three are lent one by one: a struct of them would have to say at each call that it
+// still lends the same ones.
 pub fn step<E: Engine>(
     stage: Stage<E>,
     memory: &mut [u8],

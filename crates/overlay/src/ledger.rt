@@ -13,6 +13,7 @@ pub struct Account {
 }
 
 impl Account {
+    // A total and a latest amount are two numbers of one account, each told by name.
     pub fn total(self) -> u32
         ensures { result ≡ self.total }
     {
@@ -69,6 +70,7 @@ impl Ledger {
         ensures after { booked result self.new.accounts slip.new.count ≡ book_of self.old.accounts slip.old.count account }
         ensures emptied { is_ok result ≡ true → slip.new.count ≡ 0 }
     {
+        // By number: of a place lent by `get_mut` it was not proved that sixteen accounts stay.
         if account > 15 {
             return Err(BookingFault::NoAccount);
         }

@@ -12,6 +12,7 @@ pub struct Received<E: Engine> {
     pub(crate) bits: u32,
 }
 
+// What is asked of an open overlay too: a trait for two fields would be longer than both.
 impl<E: Engine> Received<E> {
     // The bits standing.
     pub fn bits(&self) -> u32

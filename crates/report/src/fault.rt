@@ -22,6 +22,7 @@ pub enum SealFault {
     OutOfMemory(AllocError),
 }
 
+// By hand: derived ones would not say in clauses which error `?` makes.
 impl From<UnknownCipher> for SealFault {
     ghost from_gives = { λ fault result. result ≡ Unknown fault };
 
