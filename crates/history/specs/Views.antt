@@ -1,5 +1,5 @@
 -- Values of the code as plain values. Assumes nothing.
-use Rattle.std.specs.Prelude.{◌≡◌, ℕ, List, [], ◌∷◌, ◌++◌, Some, None, Ok, Err, Option, Result}
+use Rattle.std.specs.Prelude.{◌≡◌, ℕ, List, [], ◌∷◌, ◌++◌, take, Some, None, Ok, Err, Option, Result}
 use Rattle.block.specs.Arith.{Arith}
 use Rattle.engine.specs.Refusals.{Refusal}
 use Rattle.engine.specs.Meaning.{Meaning}
@@ -46,7 +46,7 @@ call_refusal (Booking fault) = booking_refusal fault
 
 -- what a call says, with a tag's bytes
 abbrev pub said_of : Result TagBytes CallFault → Answer
-said_of (Ok tag) = says carried tag.bytes.items
+said_of (Ok tag) = says carried (take tag.length tag.buffer)
 said_of (Err fault) = says (refused (call_refusal fault)) []
 
 abbrev pub answer_of : Option (Result TagBytes CallFault) → Answer

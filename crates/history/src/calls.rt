@@ -38,14 +38,15 @@ fn on_open<E: Engine>(mut opened: Open<E>, memory: &mut [u8], call: &Call<'_>) -
     }
 }
 
-// A tag of an open overlay. The buffer is one byte longer than any tag: a longer one is refused alike.
+// A tag of an open overlay. One of 17 bytes stands for any that is longer: all are refused alike.
 fn tag_of<E: Engine>(mut opened: Open<E>, memory: &[u8], bytes: usize) -> Stepped<E>
     ensures { turn_of E.Engine.means result memory.now ≡ after_tag (tag_of E.Block.Block.arith (world E.Engine.means opened memory.now (blank bytes))) }
 {
-    let mut tag = TagBytes::blank(bytes);
-    let Answer { outcome, slip } = opened.tag(memory, tag.bytes.as_mut_slice());
+    let mut buffer = [0u8; 17];
+    let length = bytes.min(17);
+    let Answer { outcome, slip } = opened.tag(memory, &mut buffer[..length]);
     let said = match outcome {
-        Ok(()) => Ok(tag),
+        Ok(()) => Ok(TagBytes { buffer, length }),
         Err(fault) => Err(CallFault::Overlay(fault)),
     };
     Stepped::told(Stage::Opened(opened), said, slip)

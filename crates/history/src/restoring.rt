@@ -6,7 +6,7 @@ ghost use Rattle.history.specs.Views.{turn_of};
 
 use crate::{Stage, Stepped};
 use engine::Engine;
-use overlay::{Answer, Received, Refused};
+use overlay::{Answer, Received};
 
 // Receives an overlay of `bits` bits and writes block `number` anew from the others and the full tag. Any other block would
 // give another tag.
@@ -40,6 +40,6 @@ fn write_anew<E: Engine>(
             let answer = received.recover(memory, tag, number);
             Stepped::after(Stage::Received(received), answer)
         }
-        Err(Refused { fault, back }) => Stepped::refused(Stage::Returned(back), fault, slip),
+        Err(refused) => Stepped::returned(refused, slip),
     }
 }

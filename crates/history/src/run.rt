@@ -6,7 +6,7 @@ ghost use Rattle.history.specs.declared.answer.Reply.{Reply as CodeReply};
 
 use crate::{Beginning, Call, Reply, Stage, Stepped, step};
 use engine::Engine;
-use overlay::{Answer, Ledger, Open, Received, Refused, Slip};
+use overlay::{Answer, Ledger, Open, Received, Slip};
 
 // Open or receive.
 fn begin<E: Engine>(beginning: Beginning, engine: E, memory: &[u8]) -> Stepped<E>
@@ -17,18 +17,14 @@ fn begin<E: Engine>(beginning: Beginning, engine: E, memory: &[u8]) -> Stepped<E
             let Answer { outcome, slip } = Open::new(engine, memory);
             match outcome {
                 Ok(opened) => Stepped::carried(Stage::Opened(opened), slip),
-                Err(Refused { fault, back }) => {
-                    Stepped::refused(Stage::Returned(back), fault, slip)
-                }
+                Err(refused) => Stepped::returned(refused, slip),
             }
         }
         Beginning::Receipt { bits } => {
             let Answer { outcome, slip } = Received::new(engine, bits, memory);
             match outcome {
                 Ok(received) => Stepped::carried(Stage::Received(received), slip),
-                Err(Refused { fault, back }) => {
-                    Stepped::refused(Stage::Returned(back), fault, slip)
-                }
+                Err(refused) => Stepped::returned(refused, slip),
             }
         }
     }

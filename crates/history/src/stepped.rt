@@ -1,12 +1,12 @@
 // What one call comes to.
 ghost use Rattle.std.specs.Prelude.{◌≡◌, [], ◌∷◌};
-ghost use Rattle.overlay.specs.Refusals.{carried, refused, overlay_refusal, outcome as overlay_outcome};
-ghost use Rattle.history.specs.Desk.{turn, untouched};
+ghost use Rattle.overlay.specs.Refusals.{carried, refused as refused_by, overlay_refusal, outcome as overlay_outcome};
+ghost use Rattle.history.specs.Desk.{engine as engine_back, turn, untouched};
 ghost use Rattle.history.specs.Views.{kept, said_of, turn_of};
 
 use crate::{CallFault, Said, Stage, Stepped, TagBytes};
 use engine::Engine;
-use overlay::{Answer, OverlayFault, Slip};
+use overlay::{Answer, OverlayFault, Refused, Slip};
 
 impl<E: Engine> Stepped<E> {
     // The overlay's state does not take the call.
@@ -51,8 +51,16 @@ impl<E: Engine> Stepped<E> {
 
     // After a call of an overlay that was refused.
     pub(crate) fn refused(stage: Stage<E>, fault: OverlayFault, slip: Slip) -> Self
-        ensures { turn_of E.Engine.means result [] ≡ turn (refused (overlay_refusal fault)) [] (kept E.Engine.means stage) [] slip.count }
+        ensures { turn_of E.Engine.means result [] ≡ turn (refused_by (overlay_refusal fault)) [] (kept E.Engine.means stage) [] slip.count }
     {
         Stepped::told(stage, Err(CallFault::Overlay(fault)), slip)
+    }
+
+    // After open or receive that was refused: the engine is back.
+    pub(crate) fn returned(refused: Refused<E>, slip: Slip) -> Self
+        ensures { turn_of E.Engine.means result [] ≡ turn (refused_by (overlay_refusal refused.fault)) [] (engine_back (E.Engine.means refused.back)) [] slip.count }
+    {
+        let Refused { fault, back } = refused;
+        Stepped::refused(Stage::Returned(back), fault, slip)
     }
 }

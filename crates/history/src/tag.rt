@@ -1,36 +1,27 @@
 // A tag's bytes.
-ghost use Rattle.std.specs.Prelude.{◌≡◌, []};
-ghost use Rattle.history.specs.Desk.{blank};
+ghost use Rattle.std.specs.Prelude.{◌≡◌, [], min, take};
 
-use arrayvec::ArrayVec;
-
-// A tag's bytes; none where no tag was asked for.
-#[derive(Drop)]
+// A tag's bytes, which may be copied; none where no tag was asked for. The buffer is one byte longer than any tag.
+#[derive(Clone, Copy)]
 pub struct TagBytes {
-    pub(crate) bytes: ArrayVec<u8, 17>,
+    pub(crate) buffer: [u8; 17],
+    pub(crate) length: usize,
 }
 
 impl TagBytes {
     pub fn as_slice(&self) -> &[u8]
-        ensures { result.now ≡ self.now.bytes.items }
+        ensures { result.now ≡ take (min self.now.length 17) self.now.buffer }
     {
-        self.bytes.as_slice()
+        let length = self.length.min(17);
+        &self.buffer[..length]
     }
 
     pub(crate) fn none() -> Self
-        ensures { result.bytes.items ≡ [] }
+        ensures { take result.length result.buffer ≡ [] }
     {
         TagBytes {
-            bytes: ArrayVec::new(),
+            buffer: [0; 17],
+            length: 0,
         }
-    }
-
-    // So many zero bytes. No tag has 17, which stand for any number above.
-    pub(crate) fn blank(count: usize) -> Self
-        ensures { result.bytes.items ≡ blank count }
-    {
-        let mut bytes = ArrayVec::from([0; 17]);
-        bytes.truncate(count);
-        TagBytes { bytes }
     }
 }
