@@ -1,5 +1,5 @@
 -- A text typed character by character into an entry of n bytes. Assumes nothing.
-use Rattle.std.proofs.Common.{◌≡◌, ℕ, ◌*◌, ◌≤◌, Bool, true, false, cond, ltb, List, [], ◌∷◌, ◌++◌, length, Some, None, Ok, Err, Option, Result, sym, refl, ap, append_assoc, append-nil, arith, length-append, ltb-true, ltb-false, le-ltb, lt-ltb}
+use Rattle.std.proofs.Common.{◌≡◌, ℕ, ◌*◌, ◌≤◌, Bool, true, false, cond, ltb, List, [], ◌∷◌, ◌++◌, length, Some, None, Ok, Err, Option, Result, sym, refl, ap, append_assoc, append-nil, arith, length-append, ltb-false, le-ltb, lt-ltb}
 use Rattle.std.specs.Str.{chars}
 use Rattle.std.proofs.lemmas.Str.{chars-nil}
 use Rattle.keys.specs.declared.fault.EntryFault.{EntryFault}
@@ -49,12 +49,3 @@ pub ends : (n : ℕ) (digits bytes : List ℕ) → length digits ≤ 2 * n → l
 ends n digits bytes h none =
     let few = le-ltb (2 * n) (length digits) h in
     rw (decodes_none bytes none, append-nil, few)
-
--- no more digits than a key has are ever there
-pub after_fits : (n : ℕ) (digits : List ℕ) (o : Option ℕ) → length digits ≤ 2 * n → length (after n digits o) ≤ 2 * n
-after_fits n digits None h = h
-after_fits n digits (Some d) h = fits_by (ltb (length digits) (2 * n)) refl
-  where
-    fits_by : (b : Bool) → ltb (length digits) (2 * n) ≡ b → length (cond b (digits ++ (d ∷ [])) digits) ≤ 2 * n
-    fits_by true few = let less = ltb-true (length digits) (2 * n) few in omega (arith, length-append digits (d ∷ []))
-    fits_by false few = h

@@ -6,6 +6,5 @@ ghost use Rattle.keys.specs.Digits.{digit_of};
 pub fn digit_of(c: char) -> Option<u8>
     ensures { result ≡ digit_of c }
 {
-    let digit = c.to_digit(16)?;
-    Some(digit as u8)
+    c.to_digit(16).map(|digit| digit as u8)
 }

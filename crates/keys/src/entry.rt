@@ -1,14 +1,10 @@
 // The digits of a key as they are typed in.
 ghost use Rattle.std.specs.Prelude.{◌≡◌, ◌≤◌, [], length, OnErr};
-ghost use Rattle.std.specs.Str.{chars};
-ghost use Rattle.keys.specs.Digits.{digit_of};
-ghost use Rattle.keys.specs.Entries.{after, answer, taken};
-ghost use Rattle.keys.specs.Keys.{key_after, concluded};
+ghost use Rattle.keys.specs.Digits.{AllDigits};
 
 use crate::{EntryFault, digit_of};
 use arrayvec::ArrayVec;
 use std::array;
-use std::marker::Model;
 
 pub const KEY_BYTES: usize = 16;
 
@@ -19,23 +15,19 @@ const KEY_DIGITS: usize = 2 * KEY_BYTES;
 #[derive(Drop)]
 pub struct Entry {
     digits: ArrayVec<u8, KEY_DIGITS>,
-}
-
-impl Model for Entry {
-    ghost use Rattle.std.specs.Prelude.{ℕ, List};
-    ghost use Rattle.keys.specs.Digits.{AllDigits};
-
-    ghost Value = { List ℕ };
-
-    ghost view = { λ e. e.digits.items };
-
-    ghost invariant = { λ e. AllDigits e.digits.items };
+    ghost small: { AllDigits digits.items },
+    ghost short: { length digits.items ≤ 32 },
 }
 
 impl Entry {
+    ghost use Rattle.std.specs.Str.{chars};
+    ghost use Rattle.keys.specs.Digits.{digit_of};
+    ghost use Rattle.keys.specs.Entries.{typed, after, answer, taken};
+    ghost use Rattle.keys.specs.Keys.{key_after, concluded};
+
     // An entry with no digit typed.
     pub fn new() -> Self
-        ensures { result ≡ [] }
+        ensures { typed result ≡ [] }
     {
         Entry {
             digits: ArrayVec::new(),
@@ -44,8 +36,8 @@ impl Entry {
 
     // Types one character: one digit more, unless it is no digit or all digits are there already.
     pub fn push(&mut self, c: char) -> Result<(), EntryFault>
-        ensures answer { result ≡ answer 16 self.old (digit_of c) }
-        ensures after { self.new ≡ after 16 self.old (digit_of c) }
+        ensures answer { result ≡ answer 16 (typed self.old) (digit_of c) }
+        ensures after { typed self.new ≡ after 16 (typed self.old) (digit_of c) }
         ensures unaltered { OnErr result (self.new ≡ self.old) }
     {
         let digit = digit_of(c).ok_or(EntryFault::NoDigit)?;
@@ -54,7 +46,7 @@ impl Entry {
 
     // The key that the digits spell, once all are typed.
     pub fn key(&self) -> Result<[u8; KEY_BYTES], EntryFault>
-        ensures { result ≡ taken 16 self.now }
+        ensures { result ≡ taken 16 (typed self.now) }
     {
         if !self.digits.is_full() {
             return Err(EntryFault::Incomplete);
@@ -64,8 +56,7 @@ impl Entry {
 
     // Types a text, up to the first character that is refused.
     pub(crate) fn type_in(&mut self, text: &str) -> Result<(), EntryFault>
-        requires { length self.old ≤ 32 }
-        ensures { concluded 16 result self.new ≡ key_after 16 self.old (chars text.now) }
+        ensures { concluded 16 result (typed self.new) ≡ key_after 16 (typed self.old) (chars text.now) }
     {
         for c in text.chars() {
             self.push(c)?;
