@@ -42,8 +42,11 @@ fn add_all<E: Engine>(
     ensures kept { Keeps E.Block.Block.arith (state E.Engine.means opened.new) memory.new }
     ensures same { (E.Engine.means opened.new.engine).enc ≡ (E.Engine.means opened.old.engine).enc }
 {
+    if message.len() > bits::MEMORY_BYTES {
+        return None;
+    }
     for part in message.chunks(piece.max(1)) {
-        let count = u32::try_from(part.len()).ok()?.checked_mul(8)?;
+        let count = 8 * part.len() as u32;
         carried(opened.add(memory, part, count))?;
     }
     Some(())

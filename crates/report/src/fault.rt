@@ -9,7 +9,7 @@ use overlay::OverlayFault;
 use std::alloc::AllocError;
 
 #[derive(Clone, Copy)]
-pub enum SealFault {
+pub(crate) enum SealFault {
     // No cipher has the name.
     UnknownCipher(UnknownCipher),
     // The key was not typed as it should be.
@@ -22,7 +22,7 @@ pub enum SealFault {
     OutOfMemory(AllocError),
 }
 
-// By hand: derived ones would not say in clauses which error `?` makes.
+// Derived ones would not say in clauses which error `?` makes.
 impl From<UnknownCipher> for SealFault {
     ghost from_gives = { λ fault result. result ≡ Unknown fault };
 

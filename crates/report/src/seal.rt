@@ -25,7 +25,7 @@ pub(crate) const ALLOWANCE: u32 = 1_000_000;
 
 // A sealed overlay: its bits and blocks, the operations that were due, and its tag in hex.
 #[derive(Drop)]
-pub struct Sealed {
+pub(crate) struct Sealed {
     bits: usize,
     blocks: usize,
     operations: u32,

@@ -1,4 +1,4 @@
-use Rattle.std.proofs.Common.{◌≡◌, min, [], ◌∷◌, ◌++◌, length, take, drop, replicate, Result, sym, ap, ◌∙◌, arith}
+use Rattle.std.proofs.Common.{◌≡◌, [], ◌∷◌, length, take, drop, replicate, Result, sym, ap, ◌∙◌, arith}
 use Rattle.std.proofs.lemmas.List.{take_at, length-take-le}
 use Rattle.overlay.specs.Calls.{tag}
 use Rattle.overlay.specs.Views.{state, world}
