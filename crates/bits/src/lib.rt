@@ -1,7 +1,7 @@
 // Bits in a memory of bytes, read in blocks: position 0 first, the highest bit of a byte first.
 #![tactic(auto)]
 
-mod view;
+mod prefix;
 mod write;
 
 ghost use Rattle.std.specs.Prelude.{◌≡◌, ◌+◌, ◌-◌, ◌*◌, ◌<◌, ◌≤◌, true, false, not, ◌∷◌, ◌++◌, length, take, replicate, is_some, IfSome};
@@ -10,7 +10,7 @@ ghost use Rattle.bits.specs.Blocks.{blocks, padded};
 ghost use Rattle.bits.specs.Memory.{content, unfit, held, closing};
 
 use block::Block;
-pub use view::Bits;
+pub use prefix::Bits;
 pub use write::{write_bits, write_block};
 
 // The largest memory, in bytes.

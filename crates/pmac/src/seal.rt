@@ -47,7 +47,7 @@ pub fn seal_blocks<E: Engine>(
     let Range { start, end } = range;
     let mut sum = E::Block::zero();
     let mut at = offset::offset(l, start - 1);
-    // A `for`: each offset follows from the last one, and each block asks the engine.
+    // Each offset follows from the last one, and each block asks the engine.
     for i in start..end {
         at = at.xor(offset::doubled(l, i.trailing_zeros()));
         let block: E::Block = bits::block_at(memory, i);
