@@ -6,7 +6,7 @@ use Rattle.block.specs.Arith.{Arith, from_bytes, to_bytes}
 use Rattle.bits.specs.Blocks.{last, padded, whole}
 use Rattle.bits.specs.declared.Last.{Last}
 use Rattle.bits.specs.declared.Last.TheVariants.{Whole, Padded}
-use Rattle.bits.specs.declared.view.Bits.{Bits}
+use Rattle.bits.specs.declared.prefix.Bits.{Bits}
 
 -- the first b bits of a memory
 abbrev pub standing : ℕ → List ℕ → List Bool

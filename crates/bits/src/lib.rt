@@ -1,7 +1,7 @@
 // Bits in a memory of bytes, read in blocks: position 0 first, the highest bit of a byte first.
 #![tactic(auto)]
 
-mod view;
+mod prefix;
 mod write;
 
 ghost use Rattle.std.specs.Prelude.{◌≡◌, ◌+◌, ◌-◌, ◌*◌, ◌<◌, ◌≤◌, true, false, not, ◌∷◌, ◌++◌, length, take, replicate, is_some, IfSome};
@@ -10,7 +10,7 @@ ghost use Rattle.bits.specs.Blocks.{blocks, padded};
 ghost use Rattle.bits.specs.Memory.{content, unfit, held, closing};
 
 use block::Block;
-pub use view::Bits;
+pub use prefix::Bits;
 pub use write::{write_bits, write_block};
 
 // The largest memory, in bytes.
@@ -31,6 +31,17 @@ pub fn block_count<B: Block>(bits: usize) -> usize
     bits.div_ceil(8 * B::size()).max(1)
 }
 
+// Block `i` of the memory, counted from 1.
+pub fn block_at<B: Block>(memory: &[u8], i: usize) -> B
+    requires numbered { 1 ≤ i }
+    requires inside { i * B.Block.arith.size ≤ length memory.now }
+    ensures { result ≡ held B.Block.arith memory.now i }
+{
+    let size = B::size();
+    let start = (i - 1) * size;
+    B::read(&memory[start..start + size])
+}
+
 impl<'a> Bits<'a> {
     // The memory's first `len` bits, unless it is larger than allowed or holds fewer.
     pub fn new(memory: &'a [u8], len: usize) -> Option<Self>
@@ -44,17 +55,6 @@ impl<'a> Bits<'a> {
         } else {
             None
         }
-    }
-
-    // Block `i` of the memory, counted from 1.
-    pub fn block<B: Block>(self, i: usize) -> B
-        requires numbered { 1 ≤ i }
-        requires inside { i * B.Block.arith.size ≤ length self.memory.now }
-        ensures { result ≡ held B.Block.arith self.entry.memory.now i }
-    {
-        let size = B::size();
-        let start = (i - 1) * size;
-        B::read(&self.memory[start..start + size])
     }
 
     // The last block, padded where it is short.

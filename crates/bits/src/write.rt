@@ -52,7 +52,7 @@ fn splice_bits(memory: &mut [u8], position: usize, edit: &[u8], count: usize)
     ensures { bits_of memory.new ≡ paste (bits_of memory.old) position (bits_of edit.now) count }
 {
     let mut done = 0;
-    // A `while`: a turn takes the bits that fall into one byte, which are up to eight.
+    // A turn takes the bits that fall into one byte, up to eight.
     while done < count {
         let at = position + done;
         let some = (count - done).min(8 - at % 8);

@@ -41,7 +41,7 @@ module _ {E B : Type 0} (means : E → Meaning B) where
   opened_by None due h = back (arrived h) (numbered 9) due
 
   abbrev pub examined : Result (Examined B) OverlayFault → Received E B → Made (State B) (Arrived B)
-  examined (Ok x) h = opened_by x.right x.due h
+  examined (Ok x) h = opened_by x.opened x.due h
   examined (Err fault) h = back (arrived h) (overlay_refusal fault) 0
 
 -- after a call that takes an overlay on: the overlay, or what was handed in

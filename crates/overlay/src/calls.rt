@@ -5,7 +5,6 @@ ghost use Rattle.overlay.specs.Laws.{Opens, Adds, Cuts, Puts, Tags};
 ghost use Rattle.overlay.specs.Views.{state, world, worked, seen, taken, Returned};
 
 use crate::{Answer, Open, OverlayFault, Refused, judge};
-use bits::Bits;
 use block::Block;
 use engine::Engine;
 use std::ops::Range;
@@ -83,9 +82,7 @@ impl<E: Engine> Open<E> {
         let due = (blocks.end - blocks.start) as u32;
         engine::afford(&self.engine, due)?;
         bits::write_bits(memory, self.bits as usize, edit, count as usize);
-        let len = (self.bits + count) as usize;
-        let bits = Bits { memory, len };
-        let come = pmac::seal_blocks(&mut self.engine, bits, self.l, blocks)?;
+        let come = pmac::seal_blocks(&mut self.engine, memory, self.l, blocks)?;
         self.sum = self.sum.xor(come);
         self.bits += count;
         Ok(due)
@@ -95,12 +92,12 @@ impl<E: Engine> Open<E> {
     fn cut_blocks(&mut self, memory: &[u8], count: u32) -> Result<u32, OverlayFault>
         ensures { worked result (world E.Engine.means self.new memory.now []) ≡ cut_of E.Block.Block.arith (world E.Engine.means self.old memory.now []) count }
     {
-        let bits = judge::fit(memory, self.bits)?;
+        judge::fit(memory, self.bits)?;
         judge::within(self.bits, count as usize)?;
         let blocks = judge::blocks_between::<E::Block>(self.bits - count, self.bits);
         let due = (blocks.end - blocks.start) as u32;
         engine::afford(&self.engine, due)?;
-        let gone = pmac::seal_blocks(&mut self.engine, bits, self.l, blocks)?;
+        let gone = pmac::seal_blocks(&mut self.engine, memory, self.l, blocks)?;
         self.sum = self.sum.xor(gone);
         self.bits -= count;
         Ok(due)
@@ -116,17 +113,15 @@ impl<E: Engine> Open<E> {
     ) -> Result<u32, OverlayFault>
         ensures { worked result (world E.Engine.means self.new memory.new []) ≡ put_of E.Block.Block.arith (world E.Engine.means self.old memory.old []) position edit.now count }
     {
-        let bits = judge::fit(memory, self.bits)?;
+        judge::fit(memory, self.bits)?;
         judge::enough(edit, count)?;
         judge::within(self.bits, position as usize + count as usize)?;
         let Range { start, end } = judge::touched_blocks::<E::Block>(self.bits, position, count);
         let due = 2 * (end - start) as u32;
         engine::afford(&self.engine, due)?;
-        let old = pmac::seal_blocks(&mut self.engine, bits, self.l, start..end)?;
+        let old = pmac::seal_blocks(&mut self.engine, memory, self.l, start..end)?;
         bits::write_bits(memory, position as usize, edit, count as usize);
-        let len = self.bits as usize;
-        let bits = Bits { memory, len };
-        let new = pmac::seal_blocks(&mut self.engine, bits, self.l, start..end)?;
+        let new = pmac::seal_blocks(&mut self.engine, memory, self.l, start..end)?;
         self.sum = self.sum.xor(old).xor(new);
         Ok(due)
     }

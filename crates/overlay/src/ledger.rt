@@ -13,7 +13,7 @@ pub struct Account {
 }
 
 impl Account {
-    // A total and a latest amount are two numbers of one account, each told by name.
+    // The sum of all amounts booked, on top of what it opened with.
     pub fn total(self) -> u32
         ensures { result ≡ self.total }
     {
@@ -70,7 +70,7 @@ impl Ledger {
         ensures after { booked result self.new.accounts slip.new.count ≡ book_of self.old.accounts slip.old.count account }
         ensures emptied { is_ok result ≡ true → slip.new.count ≡ 0 }
     {
-        // By number: of a place lent by `get_mut` it was not proved that sixteen accounts stay.
+        // By index: `get_mut` does not say that the number of accounts stays.
         if account > 15 {
             return Err(BookingFault::NoAccount);
         }

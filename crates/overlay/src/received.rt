@@ -12,7 +12,6 @@ pub struct Received<E: Engine> {
     pub(crate) bits: u32,
 }
 
-// What is asked of an open overlay too: a trait for two fields would be longer than both.
 impl<E: Engine> Received<E> {
     // The bits standing.
     pub fn bits(&self) -> u32
@@ -32,6 +31,6 @@ impl<E: Engine> Received<E> {
 // What a check worked out, for how many operations: L and the sum, if the tag handed in is right.
 #[derive(Drop)]
 pub(crate) struct Examined<B> {
-    pub(crate) right: Option<SealedBits<B>>,
+    pub(crate) opened: Option<SealedBits<B>>,
     pub(crate) due: u32,
 }

@@ -31,7 +31,7 @@ impl<E: Engine> Received<E> {
         match self.examine(memory, tag) {
             Ok(
                 Examined {
-                    right: Some(SealedBits { l, sum, .. }),
+                    opened: Some(SealedBits { l, sum, .. }),
                     due,
                 },
             ) => {
@@ -44,7 +44,7 @@ impl<E: Engine> Received<E> {
                 };
                 Answer::given(open, due)
             }
-            Ok(Examined { right: None, due }) => self.kept(OverlayFault::WrongTag, due),
+            Ok(Examined { opened: None, due }) => self.kept(OverlayFault::WrongTag, due),
             Err(fault) => self.kept(fault, 0),
         }
     }
@@ -67,8 +67,8 @@ impl<E: Engine> Received<E> {
         let sealed = pmac::sealed_bits(&mut self.engine, bits)?;
         let mut worked = [0u8; 16];
         judge::write_front(sealed.tag, &mut worked[..tag.len()]);
-        let right = judge::same_bytes(tag, &worked[..tag.len()]).then_some(sealed);
-        Ok(Examined { right, due })
+        let opened = judge::same_bytes(tag, &worked[..tag.len()]).then_some(sealed);
+        Ok(Examined { opened, due })
     }
 
     // Writes block `number` anew, so that `tag` is the full tag; what the block holds is not looked at.

@@ -28,9 +28,9 @@ module _ {B : Type 0} (A : Arith B) where
   unfoldable pub offset : B → ℕ → B
   offset l i = spread i (gray i) l
 
-  -- what the last block adds to the sum: itself and L halved where it is whole, padded where it is short
+  -- what the last block adds to the sum: padded where it is short, with L halved where it is whole
   unfoldable pub ending : B → List Bool → B
-  ending l end = cond (whole A end) (A.plus (A.pack end) (A.halve l)) (A.pack (padded A end))
+  ending l end = A.plus (A.pack (padded A end)) (cond (whole A end) (A.halve l) A.zero)
 
   module _ (enc : B → B) where
     -- Y[i], for a block before the last

@@ -53,8 +53,8 @@ fn inner_block<E: Engine>(
 {
     let Loss { bits, l, opened } = loss;
     let count = bits::block_count::<E::Block>(bits.len);
-    let before = seal::seal_blocks(engine, bits, l, 1..i)?;
-    let behind = seal::seal_blocks(engine, bits, l, i + 1..count)?;
+    let before = seal::seal_blocks(engine, bits.memory, l, 1..i)?;
+    let behind = seal::seal_blocks(engine, bits.memory, l, i + 1..count)?;
     let ending = seal::ending(bits, l);
     let y = opened.xor(ending).xor(before.xor(behind));
     unmasked(engine, y, offset::offset(l, i))
@@ -80,6 +80,6 @@ fn last_block<E: Engine>(engine: &mut E, loss: Loss<'_, E::Block>) -> Result<E::
 {
     let Loss { bits, l, opened } = loss;
     let count = bits::block_count::<E::Block>(bits.len);
-    let sum = seal::seal_blocks(engine, bits, l, 1..count)?;
+    let sum = seal::seal_blocks(engine, bits.memory, l, 1..count)?;
     Ok(opened.xor(sum).xor(l.halve()))
 }

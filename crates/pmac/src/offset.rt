@@ -18,7 +18,7 @@ pub(crate) fn offset<B: Block>(l: B, i: usize) -> B
     let mut g = i ^ (i >> 1);
     let mut x = l;
     let mut sum = B::zero();
-    // A `while`: it ends with the highest bit, and a bit's doubling goes on from the last one's.
+    // The highest bit is the last; each bit's doubling goes on from the one before.
     while g > 0 {
         if g % 2 == 1 {
             sum = sum.xor(x);

@@ -17,7 +17,7 @@ impl Numbered for TagFault {
     }
 }
 
-// By hand, since the clause of `full_tag` names the error that `?` makes.
+// The clause of `full_tag` names the error that `?` makes.
 impl From<EngineFault> for TagFault {
     ghost from_gives = { λ e r. r ≡ by_engine e };
 

@@ -34,23 +34,23 @@ pub fn ending<B: Block>(bits: Bits<'_>, l: B) -> B
 // The sum of Y over the blocks of the memory whose numbers are in `range`, where L is `l`.
 pub fn seal_blocks<E: Engine>(
     engine: &mut E,
-    bits: Bits<'_>,
+    memory: &[u8],
     l: E::Block,
     range: Range<usize>,
 ) -> Result<E::Block, EngineFault>
     requires numbered { 1 ≤ range.start }
     requires ordered { range.start ≤ range.end }
-    requires inside { (range.end - 1) * E.Block.Block.arith.size ≤ length bits.memory.now }
+    requires inside { (range.end - 1) * E.Block.Block.arith.size ≤ length memory.now }
     requires afforded { range.end - range.start ≤ (E.Engine.means engine.old).left }
-    ensures { Asks (E.Engine.means engine.old) (range.end - range.start) (over E.Block.Block.arith (stored E.Block.Block.arith (E.Engine.means engine.old).enc l bits.entry.memory.now) range.start (range.end - range.start)) result (E.Engine.means engine.new) }
+    ensures { Asks (E.Engine.means engine.old) (range.end - range.start) (over E.Block.Block.arith (stored E.Block.Block.arith (E.Engine.means engine.old).enc l memory.now) range.start (range.end - range.start)) result (E.Engine.means engine.new) }
 {
     let Range { start, end } = range;
     let mut sum = E::Block::zero();
     let mut at = offset::offset(l, start - 1);
-    // A `for`: each offset follows from the last one, and each block asks the engine.
+    // Each offset follows from the last one, and each block asks the engine.
     for i in start..end {
         at = at.xor(offset::doubled(l, i.trailing_zeros()));
-        let block: E::Block = bits.block(i);
+        let block: E::Block = bits::block_at(memory, i);
         let y = engine.encipher(block.xor(at))?;
         sum = sum.xor(y);
     }
@@ -79,7 +79,7 @@ pub fn sealed_bits<E: Engine>(
 {
     let l = engine.encipher(E::Block::zero())?;
     let count = bits::block_count::<E::Block>(bits.len);
-    let sum = seal_blocks(engine, bits, l, 1..count)?;
+    let sum = seal_blocks(engine, bits.memory, l, 1..count)?;
     let tag = closed(engine, sum, ending(bits, l))?;
     Ok(SealedBits { l, sum, tag })
 }

@@ -4,7 +4,7 @@ use Rattle.pmac.proofs.seal.ending.Goals as goal
 
 pub returns-in-Whole : goal.returns-in-Whole
 returns-in-Whole g c =
-    let e = ends_whole g.B.Block.arith c.args.l (content c.args.bits) c.in-Whole.block c.in-Whole.ensures in cc
+    let e = ends_whole g.met.B.Block.laws c.args.l (content c.args.bits) c.in-Whole.block c.in-Whole.ensures in cc
 
 pub returns-in-Padded : goal.returns-in-Padded
-returns-in-Padded g c = ends_short g.B.Block.arith c.args.l (content c.args.bits) c.in-Padded.block c.in-Padded.ensures
+returns-in-Padded g c = ends_short g.met.B.Block.laws c.args.l (content c.args.bits) c.in-Padded.block c.in-Padded.ensures

@@ -1,7 +1,7 @@
 use Rattle.std.proofs.Common.{take, ap, ◌∙◌, arith}
 use Rattle.block.specs.Bits.{bits_of}
 use Rattle.bits.proofs.Padding.{padded_read}
-use Rattle.bits.proofs.view.Bits.padded_block.Goals as goal
+use Rattle.bits.proofs.prefix.Bits.padded_block.Goals as goal
 
 pub returns : goal.returns
 returns g c =

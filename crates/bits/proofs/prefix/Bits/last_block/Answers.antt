@@ -1,6 +1,6 @@
 use Rattle.std.proofs.Common.{arith}
 use Rattle.bits.proofs.Memory.{ends_short, ends_whole}
-use Rattle.bits.proofs.view.Bits.last_block.Goals as goal
+use Rattle.bits.proofs.prefix.Bits.last_block.Goals as goal
 
 pub returns-then-rest-size : goal.returns-then-rest-size
 returns-then-rest-size g c =

@@ -2,7 +2,7 @@ use Rattle.std.proofs.Common.{◌≡◌, ◌-◌, ◌/◌, ◌%◌, true, false,
 use Rattle.std.specs.Option.{unwrap_or}
 use Rattle.block.specs.Bits.{bits, bits_of}
 use Rattle.bits.proofs.Padding.{filled, padding}
-use Rattle.bits.proofs.view.Bits.padded_bytes.Goals as goal
+use Rattle.bits.proofs.prefix.Bits.padded_bytes.Goals as goal
 
 pub returns : goal.returns
 returns c =

@@ -1,6 +1,0 @@
-use Rattle.std.proofs.Common.{◌∙◌}
-use Rattle.bits.proofs.Memory.{read_held}
-use Rattle.bits.proofs.view.Bits.block.Goals as goal
-
-pub returns : goal.returns
-returns g c = c.read.ensures ∙ read_held g.B.Block.arith c.args.self.memory.now c.args.i c.size-size.result c.size-size.ensures
