@@ -34,7 +34,7 @@ impl Numbered for BookingFault {
     }
 }
 
-// By hand: a derived one would not say in clauses which error `?` makes.
+// A derived one would not say in clauses which error `?` makes.
 impl From<EngineFault> for OverlayFault {
     ghost from_gives = { λ e r. r ≡ by_engine e };
 
