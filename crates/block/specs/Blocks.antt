@@ -1,10 +1,9 @@
 -- The arithmetic of blocks, and its two widths: 64 bits with 1B hex and 128 bits with 87. Assumes nothing.
-use Rattle.std.specs.Prelude.{◌≡◌, ℕ, ◌*◌, ◌%◌, ◌^◌, ◌<◌, bit_xor, refl}
+use Rattle.std.specs.Prelude.{◌≡◌, ℕ, ◌*◌, ◌%◌, ◌^◌, ◌<◌, refl}
 use Rattle.std.proofs.Common.{pow_pos}
 use Rattle.std.proofs.lemmas.Nat.{mod_below}
-use Rattle.block.specs.Bits.{bits, number}
 use Rattle.block.specs.Arith.{Arith}
-use Rattle.block.specs.Width.{doubled, halved, halving}
+use Rattle.block.specs.Width.{arith_of, halving}
 use Rattle.block.specs.declared.block_of.BlockOf.{BlockOf}
 
 pub lowest : (size n : ℕ) → n % 2 ^ (8 * size) < 2 ^ (8 * size)
@@ -16,15 +15,7 @@ make size n = record { value = n % 2 ^ (8 * size); fits = lowest size n }
 
 -- blocks of `size` bytes, where doubling reduces by c
 abbrev pub arith : (size c : ℕ) → Arith (BlockOf size)
-arith size c = record {
-  size = size;
-  zero = make size 0;
-  plus = λ x y. make size (bit_xor x.value y.value);
-  double = λ x. make size (doubled (8 * size) c x.value);
-  halve = λ x. make size (halved (halving size c) x.value);
-  pack = λ bs. make size (number bs);
-  unpack = λ x. bits (8 * size) x.value;
-}
+arith size c = arith_of (λ x. x.value) (make size) size c (halving size c)
 
 abbrev pub Block64 : Type 0
 Block64 = BlockOf 8

@@ -1,5 +1,7 @@
 -- Blocks of n bits as numbers below 2 ^ n. Assumes nothing.
 use Rattle.std.specs.Prelude.{◌≡◌, ℕ, zero, suc, ◌+◌, ◌-◌, ◌*◌, ◌/◌, ◌%◌, ◌^◌, ◌<◌, ◌≤◌, List, [], ◌∷◌, bit_xor, slice_index}
+use Rattle.block.specs.Bits.{bits, number}
+use Rattle.block.specs.Arith.{Arith}
 
 -- y, ⊕ed with c where the bit that was shifted out is 1
 abbrev pub reduced : ℕ → ℕ → ℕ → ℕ
@@ -13,6 +15,18 @@ doubled n c x = reduced (x / 2 ^ (n - 1) % 2) c ((x * 2) % 2 ^ n)
 -- bits shifted right by one; d where the last bit was 1
 abbrev pub halved : ℕ → ℕ → ℕ
 halved d x = reduced (x % 2) d (x / 2)
+
+-- the arithmetic of blocks of `size` bytes: `value` is a block's number, `make` the block of a number's n lowest bits
+abbrev pub arith_of : {B : Type 0} → (B → ℕ) → (ℕ → B) → ℕ → ℕ → ℕ → Arith B
+arith_of value make size c d = record {
+  size = size;
+  zero = make 0;
+  plus = λ x y. make (bit_xor (value x) (value y));
+  double = λ x. make (doubled (8 * size) c (value x));
+  halve = λ x. make (halved d (value x));
+  pack = λ bs. make (number bs);
+  unpack = λ x. bits (8 * size) (value x);
+}
 
 -- at `size` bytes, the number that halving reduces by where doubling reduces by c
 abbrev pub halving : ℕ → ℕ → ℕ

@@ -1,5 +1,6 @@
 // The two widths of blocks, and the arithmetic of both.
 ghost use Rattle.std.specs.Prelude.{◌≡◌, ℕ, length};
+ghost use Rattle.std.specs.Int.{w128, to_be_bytes};
 ghost use Rattle.block.specs.Width.{IsWidth, reduced, halving, value_of};
 ghost use Rattle.block.specs.WidthLemmas.{width64, width128};
 ghost use Rattle.block.specs.Blocks.{arith, make};
@@ -64,6 +65,13 @@ where
         Self::new(if out == 0 { shifted } else { shifted ^ number })
     }
 
+    // The bytes of the number at 128 bits, high byte first: the last ones are the block's.
+    fn wide_bytes(self) -> [u8; 16]
+        ensures { result ≡ to_be_bytes w128 self.entry.value }
+    {
+        u128::to_be_bytes(self.value)
+    }
+
     // The number in `bytes`, high byte first.
     fn number(bytes: &[u8]) -> u128
         requires { length bytes.now ≡ SIZE }
@@ -110,6 +118,6 @@ where
     }
 
     fn write(self, bytes: &mut [u8]) {
-        bytes.copy_from_slice(&self.value.to_be_bytes()[16 - SIZE..]);
+        bytes.copy_from_slice(&self.wide_bytes()[16 - SIZE..]);
     }
 }
