@@ -1,5 +1,5 @@
 -- Padding with a 1 and zeros. Assumes nothing.
-use Rattle.std.proofs.Common.{◌≡◌, ℕ, zero, suc, ◌+◌, ◌-◌, ◌*◌, ◌/◌, ◌%◌, ◌^◌, ◌<◌, ◌≤◌, max, Bool, true, false, eqb, List, [], ◌∷◌, ◌++◌, length, get_or, take, drop, set, replicate, sym, refl, ap, ◌∙◌, ap₂, add-zero, arith, take-add, ne_eqb}
+use Rattle.std.proofs.Common.{◌≡◌, ℕ, zero, suc, ◌+◌, ◌-◌, ◌*◌, ◌/◌, ◌%◌, ◌^◌, ◌<◌, ◌≤◌, max, Bool, true, false, eqb, List, [], ◌∷◌, ◌++◌, length, get_or, take, drop, set, replicate, sym, refl, ap, ◌∙◌, ap₂, add-zero, arith, take-add, eq-eqb, ne_eqb}
 use native.Mathlib.Nat.{mul-mod_left}
 use lib.Bits.{bit_or, or_step, or_zero_r}
 use Rattle.std.proofs.lemmas.Nat.{shl-shr, shr-shr}
@@ -82,6 +82,10 @@ shorter n r m bs e h k =
 pub padded_short : {B : Type 0} (A : Arith B) (bs : List Bool) → length bs < width A → padded A bs ≡ bs ++ (true ∷ replicate (width A - 1 - length bs) false)
 unfolding padded
 padded_short A bs h = let e : eqb (length bs) (width A) ≡ false = ne_eqb (length bs) (width A) (λ q. omega arith) in rw e refl
+
+pub padded_whole : {B : Type 0} (A : Arith B) (bs : List Bool) → length bs ≡ width A → padded A bs ≡ bs
+unfolding padded
+padded_whole A bs h = let e : eqb (length bs) (width A) ≡ true = eq-eqb (length bs) (width A) h in rw e refl
 
 pub padded_read : {B : Type 0} {A : Arith B} (w : Laws A) (bytes xs : List ℕ) (r : ℕ) → r < width A → r ≤ 8 * length xs → length bytes ≡ 16
     → bits_of bytes ≡ take r (bits_of xs) ++ (true ∷ replicate (127 - r) false)
