@@ -2,7 +2,7 @@
 use Rattle.std.specs.Prelude.{◌≡◌, ℕ, ◌+◌, ◌*◌, ◌/◌, ◌%◌, ◌^◌, ◌<◌}
 use lib.Bits.{bit_xor, bit_or, or_shifted}
 use Rattle.std.proofs.Common.{sym, ap, ap₂, subst, ◌∙◌, arith}
-use Rattle.std.specs.Int.Bits.{xor_assoc}
+use Rattle.std.specs.Int.Bits.{xor_assoc, xor_zero_r}
 use Rattle.std.proofs.lemmas.Nat.{shr-shr, field_of, xor_shr, xor_mod, xor_lt, xor_comm}
 use Rattle.block.specs.Width.{value_of, digits}
 use Rattle.block.specs.WidthLemmas.{xors}
@@ -62,6 +62,9 @@ unpacked_xor u v =
     let at : (k : ℕ) → bit_xor u v / 2 ^ k % 256 ≡ bit_xor (u / 2 ^ k % 256) (v / 2 ^ k % 256) =
     λ k. ap (λ (z : ℕ). z % 256) (xor_shr u v k) ∙ xor_mod (u / 2 ^ k) (v / 2 ^ k) 8 in
     λ i. column (at 24 i) (at 16 i) (at 8 i) (xor_mod u v 8 i)
+
+pub plus_none : (k : Column) → plus k (unpacked 0) ≡ k
+plus_none k = λ i. column (xor_zero_r k.s0 i) (xor_zero_r k.s1 i) (xor_zero_r k.s2 i) (xor_zero_r k.s3 i)
 
 -- the key first
 pub key_first : (k w : ℕ) → unpacked (bit_xor k w) ≡ plus (unpacked w) (unpacked k)
