@@ -30,6 +30,6 @@ module _ {B : Type 0} {A : Arith B} (w : Laws A) (l : B) where
   unfolding added
   ends_short bs x e = ap added e ∙ closes (last A bs)
 
-  pub ending_whole : (end : List Bool) → length end ≡ width A → ending A l end ≡ A.plus (A.pack end) (A.halve l)
-  unfolding added
-  ending_whole end h = sym (closes end) ∙ ap (λ t. added (cond t (Whole (A.pack end)) (Padded (A.pack (padded A end))))) (eq-eqb (length end) (width A) h)
+pub ending_whole : {B : Type 0} (A : Arith B) (l : B) (end : List Bool) → length end ≡ width A → ending A l end ≡ A.plus (A.pack end) (A.halve l)
+unfolding ending padded
+ending_whole A l end h = rw (eq-eqb (length end) (width A) h, ending) refl

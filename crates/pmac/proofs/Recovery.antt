@@ -93,7 +93,7 @@ module _ {B : Type 0} {A : Arith B} (w : Laws A) (enc : B → B) (l : B) (i : �
   unfolding last
   ending_last q =
       ap (ending A l) (ap (λ z. part A z (placed A i v bs)) (same_blocks ∙ q) ∙ placed_part w i v bs p h)
-      ∙ ending_whole w l (A.unpack v) (w.long v) ∙ ap (λ z. A.plus z (A.halve l)) (w.pack_unpack v)
+      ∙ ending_whole A l (A.unpack v) (w.long v) ∙ ap (λ z. A.plus z (A.halve l)) (w.pack_unpack v)
 
 -- ---- what is recovered
 module _ {B : Type 0} {A : Arith B} (w : Laws A) (m : Meaning B) (u : Undoes m) (t : B) where
