@@ -1,4 +1,6 @@
 // Hex as bytes.
+ghost use Rattle.std.specs.Char.{is_ascii_hexdigit};
+ghost use Rattle.std.specs.List.{list_all};
 ghost use Rattle.std.specs.Prelude.{◌≡◌, IfOk};
 ghost use Rattle.report.specs.Hex.{unhexed, bytes_in};
 
@@ -8,9 +10,20 @@ use std::alloc::{AllocError, Global};
 pub fn unhex(alloc: Global, text: &str) -> Result<Option<Vec<u8>>, AllocError>
     ensures { IfOk result (λ o. bytes_in o ≡ unhexed text.now) }
 {
+    // Looks at the digits first: a text with a wrong one, or of an odd length, asks for no memory.
+    if text.len() % 2 == 1 || !all_digits(text.as_bytes()) {
+        return Ok(None);
+    }
     let mut bytes = vec![in alloc; 0u8; text.len() / 2]?;
     match hex::decode_to_slice(text, &mut bytes) {
         Ok(()) => Ok(Some(bytes)),
         Err(_) => Ok(None),
     }
+}
+
+// Whether every byte is a hex digit.
+fn all_digits(text: &[u8]) -> bool
+    ensures { result ≡ list_all is_ascii_hexdigit text.now }
+{
+    text.iter().all(|byte| byte.is_ascii_hexdigit())
 }
