@@ -16,7 +16,10 @@ fn main(rt: HostRuntime) -> anyhow::Result<()> {
     for (i, line) in BufReader::new(alloc, rt.stdin())?.lines(alloc).enumerate() {
         let line = line?;
         match Row::read(line.as_str()) {
-            Some(row) => report.note(&row, i.saturating_add(1), row.matches(alloc)?)?,
+            Some(row) => {
+                let number = u32::try_from(i.saturating_add(1)).unwrap_or(u32::MAX);
+                report.note(&row, number, row.matches(alloc)?)?;
+            }
             None if line.as_str().starts_with('#') => {}
             None => report.skip(),
         }

@@ -33,7 +33,7 @@ impl fmt::Display for Tally {
 pub(crate) struct Report {
     tallies: BTreeMap<(Kind, Cipher), Tally>,
     unread: u32,
-    differs: Option<usize>,
+    differs: Option<u32>,
 }
 
 impl Report {
@@ -52,7 +52,7 @@ impl Report {
     }
 
     // Notes a row by its line's number.
-    pub(crate) fn note(&mut self, row: &Row, line: usize, matches: bool) -> Result<(), AllocError> {
+    pub(crate) fn note(&mut self, row: &Row, line: u32, matches: bool) -> Result<(), AllocError> {
         self.tallies
             .entry((row.kind, row.cipher))?
             .or_insert(Tally::default())
