@@ -8,7 +8,7 @@ use Rattle.aes.proofs.way_keys.middle_keys.Goals as goal
 pub loop-i-preserved : goal.loop-i-preserved
 loop-i-preserved c = (
   (simp length-set c.loop-i.invariant.0),
-  filled state_of (round_key (map unpacked c.args.w.now)) c.loop-i.key-items 1 c.loop-i.i c.round_key.result (omega arith) c.loop-i.invariant.1
+  filled state_of (round_key (map unpacked c.args.w.now)) _ 1 c.loop-i.i c.round_key.result (omega arith) c.loop-i.invariant.1
       (c.round_key.ensures ∙ ap (round_key (map unpacked c.args.w.now)) (omega arith)),
 )
 
